@@ -28,7 +28,7 @@ Each public call of the libraries, with the first sentence of its comment and th
 from the sources, so it is changed there. [CONTRACTS](CONTRACTS.md) says what the clauses of the main calls promise. A clause without a name is
 shown as `-`.
 """
-LIBRARIES = "candidate_ir candidate_eval candidate_assembly projection_goals rounds_judge candidate_rounds derivations overlaps spelling assembly_notation assembly_text".split()
+LIBRARIES = "ir_trees ir_context ir_folds ir_builder candidate_eval candidate_assembly projection_goals rounds_judge candidate_rounds derivations overlaps spelling assembly_notation assembly_text".split()
 FUNCTION = re.compile(r"^(?P<indent> *)(?P<pub>pub )?(?:final )?(?:const )?fn (?P<name>\w+)")
 TYPE = re.compile(r"^pub (?P<kind>struct|enum|trait|const|type) (?P<name>\w+)")
 HOLDER = re.compile(r"^(?P<pub>pub )?(?P<kind>impl|trait)\b(?P<rest>.*)")

@@ -33,7 +33,7 @@ import textwrap
 import types
 
 ROOT = os.path.dirname(os.path.dirname(os.path.abspath(__file__)))
-CRATES = "candidate_ir candidate_eval candidate_assembly rounds_judge derivations candidate_rounds assembly_text projection_goals overlaps examples".split()
+CRATES = "ir_trees ir_context ir_folds ir_builder candidate_eval candidate_assembly rounds_judge derivations candidate_rounds assembly_text projection_goals overlaps examples".split()
 DOCUMENT = os.path.join(ROOT, "docs", "DEFINITIONS.md")
 HEADING = "## The files to be believed"
 INTRODUCTION = """The files of each crate's `specs/` of which public contracts reach a definition: a reader must believe these, and what

@@ -42,7 +42,8 @@ lto = true
 
 # Of which types `Error` is, and of which of these there is no `Display` in the sources.
 ERRORS = {
-    "candidate_ir": [("crate::ir::stop::Stop", False), ("crate::decl::builder::DeclFault", False), ("crate::decl::fault_places::DeclError", False)],
+    "ir_trees": [("crate::ir::stop::Stop", False), ("crate::decl::fault::DeclFault", False)],
+    "ir_builder": [("crate::decl::fault_places::DeclError", False)],
     "candidate_eval": [("crate::eval::refusal::NoSolutionOrStop", True)],
 }
 
@@ -102,7 +103,7 @@ def with_errors(name):
 
 def added(name):
     """What else a crate's root gets."""
-    return plain_checks.HELPER if name == "candidate_ir" else ""
+    return plain_checks.HELPER if name == "ir_trees" else ""
 
 
 def described(text):

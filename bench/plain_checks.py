@@ -92,7 +92,7 @@ def asked_of(line):
 
 def with_checks(crate, module, text):
     """The text of a source in Rattle, where each public call checks the numbers that it is given."""
-    below = "crate" if crate == "candidate_ir" else "candidate_ir"
+    below, made = ("crate" if crate == name else name for name in ("ir_trees", "ir_context"))
     lines, holder, is_trait, taken, call = [], "", False, [], None
     for line in text.split("\n"):
         of, function = HOLDER.match(line), FUNCTION.match(line)
@@ -102,7 +102,7 @@ def with_checks(crate, module, text):
             is_public = function["pub"] or is_trait and line.startswith("    ")
             call, taken = ((function["at"], "::".join([*module, holder + function["name"]])) if is_public else None), []
         for trees, of in asked_of(line) if call else []:
-            context = reached(trees, f"{below}::decl::make::Make")
+            context = reached(trees, f"{made}::decl::make::Make")
             taken += [(context, of)] if context else []
         lines.append(line)
         if call and line == call[0] + "{":

@@ -14,7 +14,7 @@ import re
 
 ROOT = os.path.dirname(os.path.dirname(os.path.abspath(__file__)))
 LIBRARIES = (
-    "candidate_ir candidate_eval candidate_assembly rounds_judge derivations candidate_rounds "
+    "ir_trees ir_context ir_folds ir_builder candidate_eval candidate_assembly rounds_judge derivations candidate_rounds "
     "projection_goals overlaps examples"
 ).split()
 CALLERS = "texts projection_goals overlaps examples".split()

@@ -4,15 +4,15 @@ use Rattle.std.specs.Prelude.{Bool, true, false, if◌then◌else◌, max}
 use Rattle.std.proofs.Math.Nat.{le-max_right, le_refl}
 use Rattle.std.proofs.lemmas.List.{take-take, take_all, take-append-drop}
 use Rattle.std.proofs.lemmas.List.Elements.{All-weaker, All-push}
-use Rattle.candidate_ir.specs.declared.ir.kinds.Ty.{Ty}
-use Rattle.candidate_ir.specs.declared.ir.kinds.Clause.{Clause}
-use Rattle.candidate_ir.specs.Syntax.Trees.{Tree, Kind, is_alias}
-use Rattle.candidate_ir.specs.Syntax.Nodes.{kind_at, Extends}
-use Rattle.candidate_ir.specs.Declarations.Context.{Context, Grows}
-use Rattle.candidate_ir.specs.Syntax.Words.{IsTy, IsClause}
-use Rattle.candidate_ir.proofs.Syntax.Lists.{below_kind}
-use Rattle.candidate_ir.specs.Syntax.Trees.{there}
-use Rattle.candidate_ir.proofs.Growth.Kept.{number-kept}
+use Rattle.ir_trees.specs.declared.ir.kinds.Ty.{Ty}
+use Rattle.ir_trees.specs.declared.ir.kinds.Clause.{Clause}
+use Rattle.ir_trees.specs.Syntax.Trees.{Tree, Kind, is_alias}
+use Rattle.ir_trees.specs.Syntax.Nodes.{kind_at, Extends}
+use Rattle.ir_trees.specs.Declarations.Context.{Context, Grows}
+use Rattle.ir_trees.specs.Syntax.Words.{IsTy, IsClause}
+use Rattle.ir_trees.proofs.Syntax.Lists.{below_kind}
+use Rattle.ir_trees.specs.Syntax.Trees.{there}
+use Rattle.ir_trees.proofs.Growth.Kept.{number-kept}
 use Rattle.assembly_notation.specs.declared.given.Given.{Given}
 use Rattle.assembly_notation.specs.Given.{names_alias, IsNormalForm, GivenFits, GivenIsDeclared}
 

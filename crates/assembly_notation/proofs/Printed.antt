@@ -4,29 +4,29 @@ use Rattle.std.specs.Prelude.{OnOk, nat_le}
 use Rattle.std.specs.Char.{encode_utf8}
 use Rattle.std.proofs.lemmas.Result.{on_ok_weaker}
 use Rattle.std.proofs.lemmas.List.{append_assoc, append-nil, at_drop_more, at_drop_all}
-use Rattle.candidate_ir.specs.declared.ir.heads.Head.{Head}
-use Rattle.candidate_ir.specs.declared.ir.heads.Head.TheVariants as H
-use Rattle.candidate_ir.specs.declared.ir.heads.PartHead.TheVariants as P
-use Rattle.candidate_ir.specs.declared.ir.kinds.ExistentialPredicate.TheVariants as E
-use Rattle.candidate_ir.specs.declared.ir.kinds.GenericArg.{GenericArg}
-use Rattle.candidate_ir.specs.declared.ir.kinds.GenericArg.TheVariants as A
-use Rattle.candidate_ir.specs.declared.ir.kinds.Pred.{Pred}
-use Rattle.candidate_ir.specs.declared.ir.kinds.Var.{Var}
-use Rattle.candidate_ir.specs.declared.ir.kinds.TyKind.{TyKind}
-use Rattle.candidate_ir.specs.declared.ir.kinds.TyKind.TheVariants as K
-use Rattle.candidate_ir.specs.declared.ir.heads.ListHead.TheVariants as L
-use Rattle.candidate_ir.specs.declared.ir.heads.VariableSort.{VariableSort}
-use Rattle.candidate_ir.specs.declared.ir.heads.VariableSort.TheVariants as V
-use Rattle.candidate_ir.specs.declared.ir.heads.ListHead.{ListHead}
-use Rattle.candidate_ir.specs.Syntax.Kinds.{arg_kind, arg_number, arg_there, numbers}
-use Rattle.candidate_ir.specs.Syntax.Nodes.{tree_at, kind_at, trees_at, rows, var_child}
-use Rattle.candidate_ir.specs.Syntax.Trees.{Forest, none, tree, Tree, Kind, ArgumentsKind, PredicatesKind, BinderKind, RegionKind, ConstantKind, VariableKind, is_list, list_kind, sort_kind, is_list_kind, join, put, row, kind_of, there}
-use Rattle.candidate_ir.specs.Syntax.Words.{KindFits, PredFits, VarListFits, args_forest, kind_tree, list_forest, pred_kind_tree, pred_list_forest, pred_tree, preds_forest, region_tree, ty_tree, vars_kind_tree, vars_tree}
-use Rattle.candidate_ir.specs.Instantiation.Folds.{IsArg, arg_tree}
-use Rattle.candidate_ir.proofs.Syntax.Lists.{below_kind, kind_of-tree_at}
-use Rattle.candidate_ir.proofs.Syntax.Rows.{row-single}
-use Rattle.candidate_ir.proofs.Syntax.Splits.{list-head}
-use Rattle.candidate_ir.proofs.Instantiation.Joining.{binder-head}
+use Rattle.ir_trees.specs.declared.ir.heads.Head.{Head}
+use Rattle.ir_trees.specs.declared.ir.heads.Head.TheVariants as H
+use Rattle.ir_trees.specs.declared.ir.heads.PartHead.TheVariants as P
+use Rattle.ir_trees.specs.declared.ir.kinds.ExistentialPredicate.TheVariants as E
+use Rattle.ir_trees.specs.declared.ir.kinds.GenericArg.{GenericArg}
+use Rattle.ir_trees.specs.declared.ir.kinds.GenericArg.TheVariants as A
+use Rattle.ir_trees.specs.declared.ir.kinds.Pred.{Pred}
+use Rattle.ir_trees.specs.declared.ir.kinds.Var.{Var}
+use Rattle.ir_trees.specs.declared.ir.kinds.TyKind.{TyKind}
+use Rattle.ir_trees.specs.declared.ir.kinds.TyKind.TheVariants as K
+use Rattle.ir_trees.specs.declared.ir.heads.ListHead.TheVariants as L
+use Rattle.ir_trees.specs.declared.ir.heads.VariableSort.{VariableSort}
+use Rattle.ir_trees.specs.declared.ir.heads.VariableSort.TheVariants as V
+use Rattle.ir_trees.specs.declared.ir.heads.ListHead.{ListHead}
+use Rattle.ir_trees.specs.Syntax.Kinds.{arg_kind, arg_number, arg_there, numbers}
+use Rattle.ir_trees.specs.Syntax.Nodes.{tree_at, kind_at, trees_at, rows, var_child}
+use Rattle.ir_trees.specs.Syntax.Trees.{Forest, none, tree, Tree, Kind, ArgumentsKind, PredicatesKind, BinderKind, RegionKind, ConstantKind, VariableKind, is_list, list_kind, sort_kind, is_list_kind, join, put, row, kind_of, there}
+use Rattle.ir_trees.specs.Syntax.Words.{KindFits, PredFits, VarListFits, args_forest, kind_tree, list_forest, pred_kind_tree, pred_list_forest, pred_tree, preds_forest, region_tree, ty_tree, vars_kind_tree, vars_tree}
+use Rattle.ir_trees.specs.Instantiation.Folds.{IsArg, arg_tree}
+use Rattle.ir_trees.proofs.Syntax.Lists.{below_kind, kind_of-tree_at}
+use Rattle.ir_trees.proofs.Syntax.Rows.{row-single}
+use Rattle.ir_trees.proofs.Syntax.Splits.{list-head}
+use Rattle.ir_folds.proofs.Instantiation.Joining.{binder-head}
 use Rattle.assembly_notation.proofs.Lines.{spaces-append}
 use Rattle.assembly_notation.specs.Spelling.{AddsSpaces, AddsWords, AddsType, AddsAll, AddsEach, AddsFirstWords, begins_static, binder_words, first_spaces, has_few_words, is_static, qualifier_words, region_words, spaces, words, words_at, words_over, tree_words}
 

@@ -4,8 +4,8 @@ use Rattle.std.specs.Prelude.{IfSome, OnOk, OnErr, Some, suc}
 use Rattle.std.specs.Map.{lookup}
 use Rattle.std.proofs.lemmas.Bool.{eqb-true}
 use Rattle.indexmap.specs.IndexMap.{insert_entry}
-use Rattle.candidate_ir.specs.Syntax.Trees.{Forest, none, tree, Tree, skip}
-use Rattle.candidate_ir.specs.Syntax.Nodes.{tree_at}
+use Rattle.ir_trees.specs.Syntax.Trees.{Forest, none, tree, Tree, skip}
+use Rattle.ir_trees.specs.Syntax.Nodes.{tree_at}
 use Rattle.assembly_notation.specs.Spelling.{AreCounted, IsCount, head_words, is_closed, words, tree_words, words_at}
 use Rattle.assembly_notation.specs.declared.counting.Uncounted.{Uncounted}
 use Rattle.assembly_notation.specs.declared.counting.Uncounted.TheVariants.{TooMany, NodesFull}

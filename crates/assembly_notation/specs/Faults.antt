@@ -1,7 +1,7 @@
 -- What a refused declaration is among the faults of a line.
-use Rattle.candidate_ir.specs.declared.decl.builder.DeclFault.{DeclFault}
-use Rattle.candidate_ir.specs.declared.decl.builder.DeclFault.TheVariants as F
-use Rattle.candidate_ir.specs.declared.ir.stop.Stop.TheVariants as S
+use Rattle.ir_trees.specs.declared.decl.fault.DeclFault.{DeclFault}
+use Rattle.ir_trees.specs.declared.decl.fault.DeclFault.TheVariants as F
+use Rattle.ir_trees.specs.declared.ir.stop.Stop.TheVariants as S
 use Rattle.assembly_notation.specs.declared.faults.Fault.{Fault}
 use Rattle.assembly_notation.specs.declared.faults.Fault.TheVariants.{Declarations, Stop}
 

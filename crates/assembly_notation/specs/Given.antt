@@ -1,9 +1,9 @@
 -- What goals are asked under is of the table that it was read into.
 use Rattle.std.specs.Prelude.{◌≡◌, Bool, true, false, Option, Some, None, List, All, take}
-use Rattle.candidate_ir.specs.declared.ir.kinds.Ty.{Ty}
-use Rattle.candidate_ir.specs.Syntax.Trees.{Tree, is_alias}
-use Rattle.candidate_ir.specs.Syntax.Words.{IsTy, IsClause, ty_tree}
-use Rattle.candidate_ir.specs.Declarations.Context.{Context}
+use Rattle.ir_trees.specs.declared.ir.kinds.Ty.{Ty}
+use Rattle.ir_trees.specs.Syntax.Trees.{Tree, is_alias}
+use Rattle.ir_trees.specs.Syntax.Words.{IsTy, IsClause, ty_tree}
+use Rattle.ir_trees.specs.Declarations.Context.{Context}
 use Rattle.assembly_notation.specs.declared.given.Given.{Given}
 
 -- Whether the type is an alias; of an alias in it nothing is said.

@@ -1,7 +1,7 @@
 -- What the words of types say.
 use Rattle.std.specs.Prelude.{◌≡◌, []}
-use Rattle.candidate_ir.specs.declared.ir.kinds.TyKind.{TyKind}
-use Rattle.candidate_ir.specs.Syntax.Kinds.{ty_children}
+use Rattle.ir_trees.specs.declared.ir.kinds.TyKind.{TyKind}
+use Rattle.ir_trees.specs.Syntax.Kinds.{ty_children}
 use Rattle.assembly_notation.specs.declared.notation.Head.{Head}
 use Rattle.assembly_notation.specs.declared.notation.Head.TheVariants.{Leaf}
 

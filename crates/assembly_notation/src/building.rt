@@ -3,8 +3,8 @@
 //! Each call stops as the calls of `Maker` that it makes, and has their faults.
 
 ghost use Rattle.std.specs.Prelude.{◌≡◌, false, IfOk};
-ghost use Rattle.candidate_ir.specs.Declarations.Context.{Grows};
-ghost use Rattle.candidate_ir.specs.Syntax.Words.{IsTy, IsArgs, IsClause, IsConst, IsRegion, IsVars, ListFits, PredFits, BoundsFit, AtMostOnePrincipal, names_trait};
+ghost use Rattle.ir_trees.specs.Declarations.Context.{Grows};
+ghost use Rattle.ir_trees.specs.Syntax.Words.{IsTy, IsArgs, IsClause, IsConst, IsRegion, IsVars, ListFits, PredFits, BoundsFit, AtMostOnePrincipal, names_trait};
 ghost use Rattle.assembly_notation.specs.Given.{IsNoted};
 ghost use Rattle.assembly_notation.specs.Notation.{IsLeaf};
 ghost use Rattle.assembly_notation.specs.Params.{Lacks, LacksParam, ListLacks, BoundLacks, BoundsLack};
@@ -12,14 +12,14 @@ ghost use Rattle.assembly_notation.specs.Params.{Lacks, LacksParam, ListLacks, B
 use crate::faults::Fault;
 use crate::making::{Draft, Maker};
 use crate::notation::{Inputs, MAX_BOUND, Qualifier};
-use candidate_ir::decl::make::Build;
-use candidate_ir::ir::kinds::{
+use ir_context::decl::make::Build;
+use ir_trees::ir::kinds::{
     AdtId, AliasId, AliasKind, AliasTerm, AliasTy, AssocId, Binder, Clause, ClauseKind, Const,
     ConstKind, ExistentialPredicate, ExistentialProjection, ExistentialTraitRef, FnSig, GenericArg,
     Mutability, Placeholder, PredicatePolarity, ProjectionPredicate, Region, TraitId,
     TraitPredicate, TraitRef, Ty, TyKind, VarKind, Vars,
 };
-use candidate_ir::ir::stop::Stop;
+use ir_trees::ir::stop::Stop;
 
 /// What is made of one type.
 #[derive(Clone, Copy)]

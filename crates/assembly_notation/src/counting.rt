@@ -1,17 +1,17 @@
 //! How many words types are spelled in.
 
 ghost use Rattle.std.specs.Prelude.{◌≡◌, ◌+◌, ◌<◌, [], length, List, IfOk, IfSome};
-ghost use Rattle.candidate_ir.specs.Syntax.Nodes.{tree_at};
-ghost use Rattle.candidate_ir.specs.Syntax.Trees.{Tree};
-ghost use Rattle.candidate_ir.specs.Syntax.Words.{IsTy, ty_tree};
+ghost use Rattle.ir_trees.specs.Syntax.Nodes.{tree_at};
+ghost use Rattle.ir_trees.specs.Syntax.Trees.{Tree};
+ghost use Rattle.ir_trees.specs.Syntax.Words.{IsTy, ty_tree};
 ghost use Rattle.assembly_notation.specs.Spelling.{AreCounted, IsCount, begins_static, has_few_words, head_words, is_closed, words, words_at};
 
-use candidate_ir::decl::context::Cx;
-use candidate_ir::ir::heads::{Builtin, Head, PartHead};
-use candidate_ir::ir::kinds::{RegionKind, Ty};
-use candidate_ir::ir::stop::Stop;
-use candidate_ir::ir::trees::Trees;
 use indexmap::IndexMap;
+use ir_context::decl::context::Cx;
+use ir_trees::ir::heads::{Builtin, Head, PartHead};
+use ir_trees::ir::kinds::{RegionKind, Ty};
+use ir_trees::ir::stop::Stop;
+use ir_trees::ir::trees::Trees;
 use std::alloc::Global;
 use std::marker::Model;
 

@@ -2,12 +2,12 @@
 
 ghost use Rattle.std.specs.Prelude.{◌≡◌};
 ghost use Rattle.assembly_notation.specs.Faults.{fault_of};
-ghost use Rattle.candidate_ir.specs.declared.ir.stop.Stop.TheVariants.{Memory};
+ghost use Rattle.ir_trees.specs.declared.ir.stop.Stop.TheVariants.{Memory};
 ghost use Rattle.assembly_notation.specs.declared.faults.Fault.TheVariants as fault;
 
-use candidate_ir::decl::builder::DeclFault;
-use candidate_ir::decl::fault_places::DeclError;
-use candidate_ir::ir::stop::Stop;
+use ir_builder::decl::fault_places::DeclError;
+use ir_trees::decl::fault::DeclFault;
+use ir_trees::ir::stop::Stop;
 use std::alloc::{AllocError, AllocFailed};
 use std::fmt;
 

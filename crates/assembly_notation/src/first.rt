@@ -3,18 +3,18 @@
 //! that is another node, it makes what it asks for.
 
 ghost use Rattle.std.specs.Prelude.{◌≡◌, ◌<◌, IsTrue, IfSome, [], length};
-ghost use Rattle.candidate_ir.specs.Syntax.Table.{IsNodeOf};
-ghost use Rattle.candidate_ir.specs.Syntax.Trees.{none};
-ghost use Rattle.candidate_ir.specs.Syntax.Words.{IsTy, IsRegion, IsArgs, ty_tree, region_tree, args_forest, kind_tree, region_kind_tree};
+ghost use Rattle.ir_trees.specs.Syntax.Table.{IsNodeOf};
+ghost use Rattle.ir_trees.specs.Syntax.Trees.{none};
+ghost use Rattle.ir_trees.specs.Syntax.Words.{IsTy, IsRegion, IsArgs, ty_tree, region_tree, args_forest, kind_tree, region_kind_tree};
 
 use crate::notation::{Head, fixed_head};
-use candidate_ir::decl::builder::DeclsBuilder;
-use candidate_ir::decl::context::Cx;
-use candidate_ir::decl::make::Build;
-use candidate_ir::ir::kinds::{Args, FloatTy, IntTy, Region, RegionKind, Ty, TyKind, UintTy};
-use candidate_ir::ir::node::Node;
-use candidate_ir::ir::stop::Stop;
-use candidate_ir::ir::trees::Trees;
+use ir_builder::decl::builder::DeclsBuilder;
+use ir_context::decl::context::Cx;
+use ir_context::decl::make::Build;
+use ir_trees::ir::kinds::{Args, FloatTy, IntTy, Region, RegionKind, Ty, TyKind, UintTy};
+use ir_trees::ir::node::Node;
+use ir_trees::ir::stop::Stop;
+use ir_trees::ir::trees::Trees;
 
 /// The number of the static region.
 const STATIC_REGION: u32 = 0;

@@ -1,7 +1,7 @@
 //! What goals are asked under, besides the declarations.
 
 use candidate_eval::eval::mode::TypingMode;
-use candidate_ir::ir::kinds::{Clause, Ty};
+use ir_trees::ir::kinds::{Clause, Ty};
 use std::alloc::Global;
 
 /// What goals are asked under, besides the declarations.

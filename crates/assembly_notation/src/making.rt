@@ -1,12 +1,12 @@
 //! What the types of a text are made in: declarations that go on, or a context over them.
 
 ghost use Rattle.std.specs.Prelude.{◌≡◌, Bool, IsTrue, true, false, Option, Some, None, IfOk, IfNone};
-ghost use Rattle.candidate_ir.specs.Declarations.Context.{Grows};
-ghost use Rattle.candidate_ir.specs.Syntax.Kinds.{ty_head};
-ghost use Rattle.candidate_ir.specs.Syntax.Making.{Makes, a_list, a_region};
-ghost use Rattle.candidate_ir.specs.Declarations.References.{ArgumentsFit};
-ghost use Rattle.candidate_ir.specs.Syntax.Trees.{is_param};
-ghost use Rattle.candidate_ir.specs.Syntax.Words.{IsTy, IsArgs, IsPreds, ty_tree, kind_tree, preds_forest, bounds_forest, KindFits, ListFits, BoundsFit, AtMostOnePrincipal};
+ghost use Rattle.ir_trees.specs.Declarations.Context.{Grows};
+ghost use Rattle.ir_trees.specs.Syntax.Kinds.{ty_head};
+ghost use Rattle.ir_trees.specs.Syntax.Making.{Makes, a_list, a_region};
+ghost use Rattle.ir_trees.specs.Declarations.References.{ArgumentsFit};
+ghost use Rattle.ir_trees.specs.Syntax.Trees.{is_param};
+ghost use Rattle.ir_trees.specs.Syntax.Words.{IsTy, IsArgs, IsPreds, ty_tree, kind_tree, preds_forest, bounds_forest, KindFits, ListFits, BoundsFit, AtMostOnePrincipal};
 ghost use Rattle.assembly_notation.specs.Given.{IsNoted, GivenFits};
 ghost use Rattle.assembly_notation.specs.Notation.{IsLeaf};
 ghost use Rattle.assembly_notation.specs.declared.given.Given.{Given};
@@ -14,15 +14,15 @@ ghost use Rattle.assembly_notation.specs.declared.given.Given.{Given};
 use crate::faults::Fault;
 use crate::first::{first_type, no_arguments, static_region};
 use crate::given::Given;
-use candidate_ir::decl::builder::DeclsBuilder;
-use candidate_ir::decl::context::Cx;
-use candidate_ir::decl::make::Build;
-use candidate_ir::ir::kinds::{
+use ir_builder::decl::builder::DeclsBuilder;
+use ir_context::decl::context::Cx;
+use ir_context::decl::make::Build;
+use ir_trees::ir::kinds::{
     Args, Binder, ExistentialPredicate, GenericArg, InferTy, Preds, Region, RegionKind, TraitRef,
     Ty, TyKind,
 };
-use candidate_ir::ir::making::New;
-use candidate_ir::ir::stop::Stop;
+use ir_trees::ir::making::New;
+use ir_trees::ir::stop::Stop;
 
 /// What types can be made in. Where the arguments of what is made have to be those that it takes (`is_strict`), what is read is
 /// asked about: no parameter stands in it, and its arguments fit.

@@ -7,9 +7,9 @@ ghost use Rattle.assembly_notation.specs.Spelling.{spaces};
 use crate::faults::Fault;
 use crate::notation::fixed_head;
 use crate::words::{Words, is_word};
-use candidate_ir::decl::contents::ImplId;
-use candidate_ir::decl::definition::CrateId;
-use candidate_ir::ir::kinds::{AdtId, AliasId, AssocId, ForeignId, TraitId, VarKind};
+use ir_trees::decl::contents::ImplId;
+use ir_trees::decl::definition::CrateId;
+use ir_trees::ir::kinds::{AdtId, AliasId, AssocId, ForeignId, TraitId, VarKind};
 use std::alloc::{AllocError, Global};
 use std::collections::BTreeMap;
 

@@ -8,7 +8,7 @@ use crate::building::{Constant, Constructor, Pointer};
 use crate::faults::Fault;
 use crate::names::Parameters;
 use crate::words::{is_digits, listed, number_in};
-use candidate_ir::ir::kinds::{
+use ir_trees::ir::kinds::{
     BoundVar, FloatTy, InferTy, IntTy, Mutability, Placeholder, RegionKind, TyKind, UintTy, VarKind,
 };
 

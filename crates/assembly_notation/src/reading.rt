@@ -8,9 +8,9 @@ use crate::names::{NamedTrait, Names, Parameters};
 use crate::notation::Binders;
 use crate::types::{MAX_DEPTH, Scope};
 use crate::words::{Words, number_in};
-use candidate_ir::decl::contents::{AliasBoundKind, ImplId, ImplPolarity, LangItem, Sizedness};
-use candidate_ir::decl::definition::{AdtFlags, AdtShape, CrateId, TraitFlags};
-use candidate_ir::ir::kinds::{AdtId, AliasId, AssocId, Clause, TraitId, TraitRef, Ty};
+use ir_trees::decl::contents::{AliasBoundKind, ImplId, ImplPolarity, LangItem, Sizedness};
+use ir_trees::decl::definition::{AdtFlags, AdtShape, CrateId, TraitFlags};
+use ir_trees::ir::kinds::{AdtId, AliasId, AssocId, Clause, TraitId, TraitRef, Ty};
 
 /// How many crates there are.
 pub const CRATES: u16 = 256;

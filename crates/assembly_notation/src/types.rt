@@ -1,16 +1,16 @@
 //! Reading and printing types.
 
 ghost use Rattle.std.specs.Prelude.{◌≡◌, ◌<◌, ◌++◌, ◌∷◌, [], true, false, IfOk, OnOk, string_bytes};
-ghost use Rattle.candidate_ir.specs.Declarations.Context.{Grows};
-ghost use Rattle.candidate_ir.specs.Declarations.References.{ArgumentsFit};
-ghost use Rattle.candidate_ir.specs.Instantiation.Folds.{IsArg, arg_tree};
-ghost use Rattle.candidate_ir.specs.Syntax.Kinds.{arg_number};
-ghost use Rattle.candidate_ir.specs.Syntax.Words.{IsTy, IsArgs, IsPreds, IsConst, IsRegion, IsVars, IsClause, KindFits, ListFits, PredFits, BoundsFit, AtMostOnePrincipal, names_trait};
+ghost use Rattle.ir_trees.specs.Declarations.Context.{Grows};
+ghost use Rattle.ir_trees.specs.Declarations.References.{ArgumentsFit};
+ghost use Rattle.ir_trees.specs.Instantiation.Folds.{IsArg, arg_tree};
+ghost use Rattle.ir_trees.specs.Syntax.Kinds.{arg_number};
+ghost use Rattle.ir_trees.specs.Syntax.Words.{IsTy, IsArgs, IsPreds, IsConst, IsRegion, IsVars, IsClause, KindFits, ListFits, PredFits, BoundsFit, AtMostOnePrincipal, names_trait};
 ghost use Rattle.assembly_notation.specs.Given.{IsNoted};
 ghost use Rattle.assembly_notation.specs.Types.{IsNoPrincipal};
 ghost use Rattle.candidate_eval.specs.Knowability.Calls.{HasNoParam};
 ghost use Rattle.assembly_notation.specs.Notation.{IsChildless};
-ghost use Rattle.candidate_ir.specs.Syntax.Words.{args_forest, pred_kind_tree, preds_forest, region_tree, ty_tree, vars_tree};
+ghost use Rattle.ir_trees.specs.Syntax.Words.{args_forest, pred_kind_tree, preds_forest, region_tree, ty_tree, vars_tree};
 ghost use Rattle.assembly_notation.specs.Spelling.{AddsEach, AddsNamed, AddsSpaces, AddsType, AddsWords, binder_words, first_spaces, qualifier_words, region_words, spaces, tree_words, words};
 ghost use Rattle.assembly_notation.specs.Params.{Lacks, LacksParam, ListLacks, BoundLacks, BoundsLack};
 
@@ -26,14 +26,14 @@ use crate::notation::{
     Arguments, Binders, Head, Inputs, Qualifier, bound_by, constant_in, head_of, region_in, word_of,
 };
 use crate::words::Words;
-use candidate_ir::decl::context::Cx;
-use candidate_ir::ir::kinds::{
+use ir_context::decl::context::Cx;
+use ir_trees::ir::kinds::{
     Args, AssocId, Binder, BoundVar, Clause, Const, ConstKind, ExistentialPredicate, FnSig,
     GenericArg, InferTy, Placeholder, Preds, Region, RegionKind, TraitId, TraitRef, Ty, TyKind,
     VarKind, Vars,
 };
-use candidate_ir::ir::stop::Stop;
-use candidate_ir::ir::trees::Trees;
+use ir_trees::ir::stop::Stop;
+use ir_trees::ir::trees::Trees;
 use std::alloc::Global;
 
 /// How deep the words of a type may be nested.

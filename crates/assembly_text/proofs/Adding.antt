@@ -1,7 +1,7 @@
 -- Words that are added to a text, one behind the other.
 use Rattle.std.proofs.Common.{◌≡◌, ◌∙◌, ◌++◌, ℕ, List, [], Result, Ok, Err, OnOk, ap, sym}
 use Rattle.std.proofs.lemmas.List.{append-nil, append_assoc}
-use Rattle.candidate_ir.specs.declared.ir.stop.Stop.{Stop}
+use Rattle.ir_trees.specs.declared.ir.stop.Stop.{Stop}
 use Rattle.assembly_text.specs.Reasons.{AddsMore}
 
 pub nothing-more : (old : List ℕ) → AddsMore old old

@@ -11,8 +11,8 @@ use Rattle.std.proofs.lemmas.List.Kept.{Contains-dedup, Contains-from_dedup}
 use Rattle.std.proofs.lemmas.List.Sorted.{Contains-permutation, IsPermutation-sym}
 use Rattle.std.proofs.lemmas.Map.Keys.{IsStrictlyIncreasing-dedup}
 use Rattle.std.proofs.Math.ListN.{get_or-map}
-use Rattle.candidate_ir.specs.declared.decl.contents.ImplId.{ImplId}
-use Rattle.candidate_ir.specs.contracts.decl.contents.ImplIdPartialEq.TheImpl.{eq-value}
+use Rattle.ir_trees.specs.declared.decl.contents.ImplId.{ImplId}
+use Rattle.ir_trees.specs.contracts.decl.contents.ImplIdPartialEq.TheImpl.{eq-value}
 
 abbrev number : ImplId → ℕ
 number n = n.0

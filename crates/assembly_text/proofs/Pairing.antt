@@ -8,26 +8,26 @@ use Rattle.std.proofs.Common.{Vec, Global}
 use Rattle.std.proofs.lemmas.Bool.{cases_eq, eq-eqb, eqb-true, lt-ltb, ltb-true}
 use Rattle.std.proofs.lemmas.List.{append-nil}
 use Rattle.std.proofs.lemmas.List.Elements.{All-contains, Contains-append_left, Contains-append_right, Contains-get_or, Contains-push, filter_passes}
-use Rattle.candidate_ir.specs.declared.decl.contents.ImplId.{ImplId}
-use Rattle.candidate_ir.specs.declared.ir.heads.Head.{Head}
-use Rattle.candidate_ir.specs.declared.ir.kinds.TraitId.{TraitId}
-use Rattle.candidate_ir.specs.declared.ir.kinds.TraitRef.{TraitRef}
-use Rattle.candidate_ir.specs.declared.ir.unify.RightSide.{RightSide}
-use Rattle.candidate_ir.specs.declared.ir.unify.RightSide.TheVariants.{Header}
-use Rattle.candidate_ir.specs.Declarations.Contents.{Impl}
-use Rattle.candidate_ir.specs.Declarations.Context.{Context, Grows, world}
-use Rattle.candidate_ir.specs.Declarations.Declaring.{impl_at}
-use Rattle.candidate_ir.specs.Declarations.Lookups.{maybe}
-use Rattle.candidate_ir.specs.Declarations.Worlds.{TraitSort, joined, kinds_of, parameters}
-use Rattle.candidate_ir.specs.Syntax.Trees.{Forest, Kind, TypeKind, none, tree, Tree, holds, is_alias, is_type, is_type_kind, kind_of}
-use Rattle.candidate_ir.specs.Syntax.Words.{args_forest}
-use Rattle.candidate_ir.specs.Unification.Impls.{first_type, impls_of, is_relevant, listed_type, may_be_for, relevant_impls, self_type}
-use Rattle.candidate_ir.specs.Unification.Unify.{may_unify, trees_may_unify}
-use Rattle.candidate_ir.specs.Validity.WellFormed.{ImplIsGiven, IsWellFormedTable}
-use Rattle.candidate_ir.proofs.Growth.Kept.{args-kept, grows-refl, grows-trans}
-use Rattle.candidate_ir.proofs.Unification.MayUnify.{list_rejected}
-use Rattle.candidate_ir.proofs.Validity.Given.{impl_given}
-use Rattle.candidate_ir.proofs.Validity.ListedImpls.{impl_is_listed}
+use Rattle.ir_trees.specs.declared.decl.contents.ImplId.{ImplId}
+use Rattle.ir_trees.specs.declared.ir.heads.Head.{Head}
+use Rattle.ir_trees.specs.declared.ir.kinds.TraitId.{TraitId}
+use Rattle.ir_trees.specs.declared.ir.kinds.TraitRef.{TraitRef}
+use Rattle.ir_trees.specs.declared.ir.unify.RightSide.{RightSide}
+use Rattle.ir_trees.specs.declared.ir.unify.RightSide.TheVariants.{Header}
+use Rattle.ir_trees.specs.Declarations.Contents.{Impl}
+use Rattle.ir_trees.specs.Declarations.Context.{Context, Grows, world}
+use Rattle.ir_trees.specs.Declarations.Declaring.{impl_at}
+use Rattle.ir_trees.specs.Declarations.Lookups.{maybe}
+use Rattle.ir_trees.specs.Declarations.Worlds.{TraitSort, joined, kinds_of, parameters}
+use Rattle.ir_trees.specs.Syntax.Trees.{Forest, Kind, TypeKind, none, tree, Tree, holds, is_alias, is_type, is_type_kind, kind_of}
+use Rattle.ir_trees.specs.Syntax.Words.{args_forest}
+use Rattle.ir_trees.specs.Unification.Impls.{first_type, impls_of, is_relevant, listed_type, may_be_for, relevant_impls, self_type}
+use Rattle.ir_trees.specs.Unification.Unify.{may_unify, trees_may_unify}
+use Rattle.ir_trees.specs.Validity.WellFormed.{ImplIsGiven, IsWellFormedTable}
+use Rattle.ir_trees.proofs.Growth.Kept.{args-kept, grows-refl, grows-trans}
+use Rattle.ir_trees.proofs.Unification.MayUnify.{list_rejected}
+use Rattle.ir_context.proofs.Validity.Given.{impl_given}
+use Rattle.ir_context.proofs.Validity.ListedImpls.{impl_is_listed}
 use Rattle.candidate_eval.specs.Dynamic.ObjectRequirements.{first_tree}
 use Rattle.candidate_assembly.specs.Answers.KnownImpls.{header_of}
 use Rattle.assembly_text.specs.declared.checking.ImplsWithAliases.{ImplsWithAliases}

@@ -1,12 +1,12 @@
 -- Projections that a text gives, as evaluators ask them.
 use Rattle.std.proofs.Common.{◌≡◌, false, Some, sym, ◌∙◌, ap, subst}
-use Rattle.candidate_ir.specs.declared.ir.kinds.AliasTy.{AliasTy}
-use Rattle.candidate_ir.specs.declared.ir.kinds.ParamEnv.{ParamEnv}
-use Rattle.candidate_ir.specs.Declarations.Context.{Context, Grows}
-use Rattle.candidate_ir.specs.Declarations.Worlds.{World, alias_kinds, kinds_of}
-use Rattle.candidate_ir.specs.Syntax.Binders.{escapes}
-use Rattle.candidate_ir.specs.Syntax.Words.{IsParamEnv, args_forest}
-use Rattle.candidate_ir.proofs.Growth.Kept.{args-kept, world-kept}
+use Rattle.ir_trees.specs.declared.ir.kinds.AliasTy.{AliasTy}
+use Rattle.ir_trees.specs.declared.ir.kinds.ParamEnv.{ParamEnv}
+use Rattle.ir_trees.specs.Declarations.Context.{Context, Grows}
+use Rattle.ir_trees.specs.Declarations.Worlds.{World, alias_kinds, kinds_of}
+use Rattle.ir_trees.specs.Syntax.Binders.{escapes}
+use Rattle.ir_trees.specs.Syntax.Words.{IsParamEnv, args_forest}
+use Rattle.ir_trees.proofs.Growth.Kept.{args-kept, world-kept}
 use Rattle.candidate_assembly.specs.Goals.KindShown.{IsGoal, trait_kind}
 use Rattle.candidate_assembly.proofs.Calls.Keeping.{trait-goal-kept}
 use Rattle.candidate_rounds.specs.Table.Normalizing.{IsProjection, trait_predicate}

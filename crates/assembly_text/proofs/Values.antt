@@ -3,12 +3,12 @@ use Rattle.std.proofs.Common.{◌≡◌, ◌∙◌, ◌++◌, ℕ, List, [], Opt
 use Rattle.std.specs.Prelude.{All, IfSome}
 use Rattle.std.proofs.lemmas.List.{append-nil, append_assoc}
 use Rattle.std.proofs.lemmas.List.Elements.{All-weaker}
-use Rattle.candidate_ir.specs.declared.ir.kinds.Args.{Args}
-use Rattle.candidate_ir.specs.declared.ir.kinds.Ty.{Ty}
-use Rattle.candidate_ir.specs.Declarations.Context.{Context, Grows}
-use Rattle.candidate_ir.specs.Syntax.Words.{IsArgs, IsTy}
-use Rattle.candidate_ir.proofs.Growth.Kept.{args-kept, ty-kept}
-use Rattle.candidate_ir.proofs.Instantiation.Joining.{clause-kept}
+use Rattle.ir_trees.specs.declared.ir.kinds.Args.{Args}
+use Rattle.ir_trees.specs.declared.ir.kinds.Ty.{Ty}
+use Rattle.ir_trees.specs.Declarations.Context.{Context, Grows}
+use Rattle.ir_trees.specs.Syntax.Words.{IsArgs, IsTy}
+use Rattle.ir_trees.proofs.Growth.Kept.{args-kept, ty-kept}
+use Rattle.ir_folds.proofs.Instantiation.Joining.{clause-kept}
 use Rattle.assembly_text.specs.declared.explaining.AskedGoal.{AskedGoal}
 use Rattle.assembly_text.specs.Explaining.{IsAsked}
 use Rattle.assembly_text.specs.Printing.{AddsWord}

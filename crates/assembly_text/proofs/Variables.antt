@@ -1,16 +1,16 @@
 -- Variables that are made one after another, to stand in the place of parameters.
 use Rattle.std.proofs.Common.{◌≡◌, ◌<◌, ◌≤◌, ◌+◌, ℕ, suc, List, [], ◌∷◌, ◌++◌, append_assoc, drop, length, map, slice_index_or, arith, refl, sym, ◌∙◌, ap, subst}
 use Rattle.std.proofs.lemmas.List.{append-nil}
-use Rattle.candidate_ir.specs.declared.ir.kinds.GenericArg.{GenericArg}
-use Rattle.candidate_ir.specs.declared.ir.kinds.VarKind.{VarKind}
-use Rattle.candidate_ir.specs.Declarations.Context.{Context, Grows, parameter_kind}
-use Rattle.candidate_ir.specs.Instantiation.Folds.{IsArg, arg_tree}
-use Rattle.candidate_ir.specs.Syntax.Kinds.{arg_child, numbers}
-use Rattle.candidate_ir.specs.Syntax.Nodes.{rows, trees_at}
-use Rattle.candidate_ir.specs.Syntax.Words.{ListFits, list_forest}
-use Rattle.candidate_ir.proofs.Growth.Kept.{grows-refl, grows-trans}
-use Rattle.candidate_ir.proofs.Growth.Made.{ListFits-grows}
-use Rattle.candidate_ir.proofs.Syntax.Lists.{trees_at-append}
+use Rattle.ir_trees.specs.declared.ir.kinds.GenericArg.{GenericArg}
+use Rattle.ir_trees.specs.declared.ir.kinds.VarKind.{VarKind}
+use Rattle.ir_trees.specs.Declarations.Context.{Context, Grows, parameter_kind}
+use Rattle.ir_trees.specs.Instantiation.Folds.{IsArg, arg_tree}
+use Rattle.ir_trees.specs.Syntax.Kinds.{arg_child, numbers}
+use Rattle.ir_trees.specs.Syntax.Nodes.{rows, trees_at}
+use Rattle.ir_trees.specs.Syntax.Words.{ListFits, list_forest}
+use Rattle.ir_trees.proofs.Growth.Kept.{grows-refl, grows-trans}
+use Rattle.ir_trees.proofs.Growth.Made.{ListFits-grows}
+use Rattle.ir_trees.proofs.Syntax.Lists.{trees_at-append}
 use Rattle.candidate_eval.specs.Judges.States.{variable, variable_kind}
 use Rattle.candidate_rounds.proofs.Resolution.Leafing.{below-args, push-fits, push-trees}
 use Rattle.candidate_rounds.proofs.Snapshots.Undoing.{drop-one, drop-beyond}

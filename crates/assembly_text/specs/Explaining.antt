@@ -1,9 +1,9 @@
 -- Why a goal comes to what it does, and by which candidates.
 use Rattle.std.specs.Prelude.{ℕ, Option, List, All, IfSome}
-use Rattle.candidate_ir.specs.declared.ir.kinds.TraitPredicate.{TraitPredicate}
-use Rattle.candidate_ir.specs.Declarations.Context.{Context}
-use Rattle.candidate_ir.specs.Syntax.Trees.{Tree}
-use Rattle.candidate_ir.specs.Syntax.Words.{IsArgs, IsClause}
+use Rattle.ir_trees.specs.declared.ir.kinds.TraitPredicate.{TraitPredicate}
+use Rattle.ir_trees.specs.Declarations.Context.{Context}
+use Rattle.ir_trees.specs.Syntax.Trees.{Tree}
+use Rattle.ir_trees.specs.Syntax.Words.{IsArgs, IsClause}
 use Rattle.candidate_rounds.specs.declared.rounds.goals.Verdict.{Verdict}
 use Rattle.candidate_rounds.specs.Table.Goals.{Each}
 use Rattle.candidate_rounds.specs.Table.Steps.{IsStep}

@@ -1,8 +1,8 @@
 -- What is said of whether two impls overlap: whether their where clauses can hold together, and which is known not to hold where the other impl does.
 use Rattle.std.specs.Prelude.{◌≡◌, ◌++◌, ◌∷◌, [], ℕ, List, Option, Some, None, false, true}
 use Rattle.std.specs.Fmt.{decimal}
-use Rattle.candidate_ir.specs.declared.decl.contents.ImplId.{ImplId}
-use Rattle.candidate_ir.specs.Declarations.Context.{Context}
+use Rattle.ir_trees.specs.declared.decl.contents.ImplId.{ImplId}
+use Rattle.ir_trees.specs.Declarations.Context.{Context}
 use Rattle.overlaps.specs.declared.instance.CommonInstance.{CommonInstance}
 use Rattle.overlaps.specs.declared.overlap.Overlap.{Overlap}
 use Rattle.overlaps.specs.declared.overlap.Overlap.TheVariants as O

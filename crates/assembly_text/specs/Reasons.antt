@@ -1,9 +1,9 @@
 -- Why two impls of a text overlap, may overlap or don't: what `overlap` says of them, and lines behind it.
 use Rattle.std.specs.Prelude.{◌≡◌, ◌++◌, ℕ, List, All}
-use Rattle.candidate_ir.specs.declared.decl.contents.ImplId.{ImplId}
-use Rattle.candidate_ir.specs.Declarations.Context.{Context}
-use Rattle.candidate_ir.specs.Syntax.Trees.{Tree}
-use Rattle.candidate_ir.specs.Syntax.Words.{IsClause}
+use Rattle.ir_trees.specs.declared.decl.contents.ImplId.{ImplId}
+use Rattle.ir_trees.specs.Declarations.Context.{Context}
+use Rattle.ir_trees.specs.Syntax.Trees.{Tree}
+use Rattle.ir_trees.specs.Syntax.Words.{IsClause}
 use Rattle.assembly_notation.specs.declared.given.Given.{Given}
 use Rattle.assembly_notation.specs.Lines.{rounds_of_line}
 use Rattle.assembly_text.specs.declared.reasons.Reasoned.{Reasoned}

@@ -1,16 +1,16 @@
 -- What a goal of a text comes to: an evaluator is made for it, and so many rounds at most are done.
 use Rattle.std.specs.Prelude.{◌≡◌, ℕ, zero, suc, true, false, Option, Some, None, List, [], ◌++◌, All, if◌then◌else◌}
-use Rattle.candidate_ir.specs.declared.ir.kinds.Clause.{Clause}
-use Rattle.candidate_ir.specs.declared.ir.kinds.ParamEnv.{ParamEnv}
-use Rattle.candidate_ir.specs.declared.ir.kinds.TraitPredicate.{TraitPredicate}
-use Rattle.candidate_ir.specs.declared.ir.kinds.Ty.{Ty}
-use Rattle.candidate_ir.specs.Declarations.Context.{Context, Grows, world}
-use Rattle.candidate_ir.specs.Declarations.References.{ArgumentsFit}
-use Rattle.candidate_ir.specs.Instantiation.Owned.{is_unsolved}
-use Rattle.candidate_ir.specs.Syntax.Binders.{escapes}
-use Rattle.candidate_ir.specs.Syntax.Trees.{Forest, Tree, holds}
-use Rattle.candidate_ir.specs.Syntax.Words.{IsArgs, IsParamEnv, IsTy, args_forest, clause_list_forest, env_forest}
-use Rattle.candidate_ir.specs.declared.ir.heads.VariableSort.TheVariants.{General}
+use Rattle.ir_trees.specs.declared.ir.kinds.Clause.{Clause}
+use Rattle.ir_trees.specs.declared.ir.kinds.ParamEnv.{ParamEnv}
+use Rattle.ir_trees.specs.declared.ir.kinds.TraitPredicate.{TraitPredicate}
+use Rattle.ir_trees.specs.declared.ir.kinds.Ty.{Ty}
+use Rattle.ir_trees.specs.Declarations.Context.{Context, Grows, world}
+use Rattle.ir_trees.specs.Declarations.References.{ArgumentsFit}
+use Rattle.ir_trees.specs.Instantiation.Owned.{is_unsolved}
+use Rattle.ir_trees.specs.Syntax.Binders.{escapes}
+use Rattle.ir_trees.specs.Syntax.Trees.{Forest, Tree, holds}
+use Rattle.ir_trees.specs.Syntax.Words.{IsArgs, IsParamEnv, IsTy, args_forest, clause_list_forest, env_forest}
+use Rattle.ir_trees.specs.declared.ir.heads.VariableSort.TheVariants.{General}
 use Rattle.candidate_eval.specs.declared.eval.mode.TypingMode.{TypingMode}
 use Rattle.candidate_eval.specs.declared.eval.variable.VariableKind.TheVariants.{Term}
 use Rattle.candidate_eval.specs.Judges.States.{State}

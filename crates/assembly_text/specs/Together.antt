@@ -1,7 +1,7 @@
 -- Whether the where clauses of two impls of a text can hold together, though none of them is refused alone.
 use Rattle.std.specs.Prelude.{◌≡◌, ◌∷◌, [], ℕ, Bool, true, List}
-use Rattle.candidate_ir.specs.declared.decl.contents.ImplId.{ImplId}
-use Rattle.candidate_ir.specs.Declarations.Context.{Context, Grows}
+use Rattle.ir_trees.specs.declared.decl.contents.ImplId.{ImplId}
+use Rattle.ir_trees.specs.Declarations.Context.{Context, Grows}
 use Rattle.candidate_eval.specs.Judges.Modes.{is_coherence}
 use Rattle.candidate_rounds.specs.Evaluators.Known.{Evaluator}
 use Rattle.candidate_rounds.specs.Table.Running.{StaysBesideTable}

@@ -2,8 +2,8 @@
 
 ghost use Rattle.std.specs.Cmp.Lexicographic.{pointwise};
 ghost use Rattle.std.specs.Prelude.{◌≡◌, ◌≢◌, ◌<◌, ◌∷◌, [], nat_eq, true, Ok, Err, Option, Result, All, IfErr, IfOk, OnOk, string_bytes};
-ghost use Rattle.candidate_ir.specs.Syntax.Words.{IsTy, IsArgs};
-ghost use Rattle.candidate_ir.specs.Declarations.References.{ArgumentsFit};
+ghost use Rattle.ir_trees.specs.Syntax.Words.{IsTy, IsArgs};
+ghost use Rattle.ir_trees.specs.Declarations.References.{ArgumentsFit};
 ghost use Rattle.candidate_eval.specs.Knowability.Answers.{AreAnswerTypes, OutOfMemory, answer_of, knowledge_of};
 ghost use Rattle.candidate_eval.specs.Knowability.Orphan.{bare_answer, bare_knowledge};
 ghost use Rattle.overlaps.specs.declared.overlap.Overlap.{Overlap};
@@ -11,7 +11,7 @@ ghost use Rattle.overlaps.specs.declared.specializing.Specialization.{Specializa
 ghost use Rattle.candidate_eval.specs.declared.coherence.Conflict.{Conflict};
 ghost use Rattle.candidate_rounds.specs.declared.rounds.goals.Verdict.{Verdict};
 ghost use Rattle.assembly_notation.specs.Given.{GivenFits, GivenIsDeclared};
-ghost use Rattle.candidate_ir.specs.Declarations.Context.{Grows};
+ghost use Rattle.ir_trees.specs.Declarations.Context.{Grows};
 ghost use Rattle.assembly_text.specs.Asking.{AddsSomeCheck, AddsSomeGoal, AddsSomeKnown, AddsSomeNormal, AddsSomeValues, declared_part};
 ghost use Rattle.assembly_text.specs.Normalizing.{AddsNormal, IsNormal, IsNormalSolved, IsReadProjection};
 ghost use Rattle.assembly_text.specs.Negating.{AddsSomeOverlap};
@@ -36,15 +36,15 @@ use candidate_eval::coherence::{
     Conflict, InCrate, NormalizeErr, OrphanCheckErr, OrphanCheckMode, OrphanStop,
     orphan_check_trait_ref, trait_ref_is_knowable,
 };
-use candidate_ir::decl::contents::ImplId;
-use candidate_ir::decl::context::Cx;
-use candidate_ir::ir::kinds::{
-    AliasKind, AliasTy, PredicatePolarity, TraitPredicate, TraitRef, Ty, TyKind,
-};
-use candidate_ir::ir::stop::Stop;
-use candidate_ir::ir::trees::Trees;
 use candidate_rounds::rounds::goals::Verdict;
 use candidate_rounds::rounds::normalizing::trait_predicate;
+use ir_context::decl::context::Cx;
+use ir_trees::decl::contents::ImplId;
+use ir_trees::ir::kinds::{
+    AliasKind, AliasTy, PredicatePolarity, TraitPredicate, TraitRef, Ty, TyKind,
+};
+use ir_trees::ir::stop::Stop;
+use ir_trees::ir::trees::Trees;
 use overlaps::overlap::Overlap;
 use overlaps::specializing::Specialization;
 use std::alloc::Global;

@@ -5,7 +5,7 @@ use crate::declaring::{Declaration, GivenPart};
 use assembly_notation::faults::Fault;
 use assembly_notation::reading::{ClausePlace, ContentKind, DefinitionKind, PlainKind};
 use assembly_notation::shapes::{Shape, Slot};
-use candidate_ir::decl::contents::{AliasBoundKind, Sizedness};
+use ir_trees::decl::contents::{AliasBoundKind, Sizedness};
 use std::alloc::AllocError;
 
 /// What the first word of a line can be.

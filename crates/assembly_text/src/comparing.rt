@@ -1,15 +1,15 @@
 //! What is found of two impls: whether they overlap, and whether one of them specialises the other one.
 
 ghost use Rattle.std.specs.Prelude.{◌≡◌, ◌<◌, false, true, IfErr, IfOk, IfSome, None};
-ghost use Rattle.candidate_ir.specs.Syntax.Words.{IsArgs};
+ghost use Rattle.ir_trees.specs.Syntax.Words.{IsArgs};
 ghost use Rattle.overlaps.specs.declared.specializing.Specialization.{Specialization};
 ghost use Rattle.assembly_text.specs.Checking.{Stays};
 ghost use Rattle.assembly_text.specs.Specializing.{IsFoundOf, IsInstanceOr, IsInstanceUnless, IsInstanceUnlessApart, IsNotOneBy, IsNotOtherBy, IsNotSpecial, IsOneBy, IsOtherBy, IsPairStop, IsPrintableFound, IsSpecial, IsSpecialOfThem, NoneSpecializesAlone, is_declared_special};
 
 use crate::asking::Asking;
-use candidate_ir::decl::contents::ImplId;
-use candidate_ir::decl::context::Cx;
-use candidate_ir::ir::stop::Stop;
+use ir_context::decl::context::Cx;
+use ir_trees::decl::contents::ImplId;
+use ir_trees::ir::stop::Stop;
 use overlaps::allowance::Allowance;
 use overlaps::instance::CommonInstance;
 use overlaps::overlap::Overlap;

@@ -1,8 +1,8 @@
 //! By which candidates a goal comes to what it does.
 
 ghost use Rattle.std.specs.Prelude.{◌≡◌, ◌<◌, IfOk};
-ghost use Rattle.candidate_ir.specs.Declarations.Context.{Grows};
-ghost use Rattle.candidate_ir.specs.Syntax.Words.{ClauseListFits};
+ghost use Rattle.ir_trees.specs.Declarations.Context.{Grows};
+ghost use Rattle.ir_trees.specs.Syntax.Words.{ClauseListFits};
 ghost use Rattle.candidate_assembly.specs.Goals.KindShown.{IsGoal, trait_kind};
 ghost use Rattle.assembly_notation.specs.Given.{GivenFits};
 ghost use Rattle.assembly_text.specs.Solving.{IsReadGoal, IsSolvedBefore};
@@ -13,11 +13,11 @@ use assembly_notation::given::Given;
 use candidate_eval::eval::certainty::Certainty;
 use candidate_eval::eval::response::Candidate;
 use candidate_eval::eval::source::CandidateSource;
-use candidate_ir::decl::context::Cx;
-use candidate_ir::ir::kinds::{Clause, ParamEnv, TraitPredicate};
-use candidate_ir::ir::stop::Stop;
 use candidate_rounds::rounds::Rounds;
 use candidate_rounds::rounds::goals::Verdict;
+use ir_context::decl::context::Cx;
+use ir_trees::ir::kinds::{Clause, ParamEnv, TraitPredicate};
+use ir_trees::ir::stop::Stop;
 use std::alloc::Global;
 
 /// A candidate: by what a goal holds, if it does, and whether that is sure.

@@ -15,11 +15,12 @@ use assembly_notation::reading::{
 use assembly_notation::types::{MAX_DEPTH, Scope};
 use assembly_notation::words::Words;
 use candidate_eval::eval::mode::TypingMode;
-use candidate_ir::decl::builder::{DeclFault, DeclsBuilder};
-use candidate_ir::decl::context::Cx;
-use candidate_ir::decl::definition::AssocKind;
-use candidate_ir::decl::limits::Limits;
-use candidate_ir::ir::kinds::{Clause, VarKind};
+use ir_builder::decl::builder::DeclsBuilder;
+use ir_context::decl::context::Cx;
+use ir_trees::decl::definition::AssocKind;
+use ir_trees::decl::fault::DeclFault;
+use ir_trees::decl::limits::Limits;
+use ir_trees::ir::kinds::{Clause, VarKind};
 use std::alloc::{AllocError, Global};
 
 /// A command that declares.

@@ -2,9 +2,9 @@
 
 ghost use Rattle.std.specs.Prelude.{◌≡◌, ◌<◌, All, IfOk, IfSome, List};
 ghost use Rattle.std.specs.Option.{option_copied};
-ghost use Rattle.candidate_ir.specs.Declarations.Context.{Grows};
-ghost use Rattle.candidate_ir.specs.Syntax.Trees.{Tree};
-ghost use Rattle.candidate_ir.specs.Syntax.Words.{ClauseListFits, IsArgs};
+ghost use Rattle.ir_trees.specs.Declarations.Context.{Grows};
+ghost use Rattle.ir_trees.specs.Syntax.Trees.{Tree};
+ghost use Rattle.ir_trees.specs.Syntax.Words.{ClauseListFits, IsArgs};
 ghost use Rattle.candidate_assembly.specs.Goals.KindShown.{IsGoal, trait_kind};
 ghost use Rattle.candidate_rounds.specs.Table.Goals.{IsTraitGoal, IsVerdict};
 ghost use Rattle.assembly_text.specs.Explaining.{AreReasons, IsAsked};
@@ -15,12 +15,12 @@ use crate::openness::{Openness, look_at_open};
 use crate::printing::words_of_verdict;
 use crate::solving::{context_of, environment, evaluator, run};
 use assembly_notation::given::Given;
-use candidate_ir::decl::context::Cx;
-use candidate_ir::ir::kinds::{Args, Clause, ParamEnv, TraitPredicate};
-use candidate_ir::ir::stop::Stop;
 use candidate_rounds::rounds::Rounds;
 use candidate_rounds::rounds::derivation::DerivationTree;
 use candidate_rounds::rounds::goals::{GoalKey, Verdict};
+use ir_context::decl::context::Cx;
+use ir_trees::ir::kinds::{Args, Clause, ParamEnv, TraitPredicate};
+use ir_trees::ir::stop::Stop;
 use std::alloc::Global;
 
 /// A goal that a run asked for, and what it came to.

@@ -7,7 +7,7 @@ use crate::placing::{BadLine, Place, bytes_before, bytes_before_last, place_of};
 use crate::saying::add_saying;
 use assembly_notation::faults::Fault;
 use assembly_notation::words::{Words, first_bad_byte, without_return};
-use candidate_ir::ir::stop::Stop;
+use ir_trees::ir::stop::Stop;
 use std::alloc::{AllocError, Global};
 
 /// Of how many bad lines something is said.

@@ -5,7 +5,7 @@ use crate::object_trees::{Object, Rest};
 use crate::stops::words_of_stop;
 use assembly_notation::faults::Fault;
 use assembly_notation::words::Words;
-use candidate_ir::ir::stop::Stop;
+use ir_trees::ir::stop::Stop;
 use json::Writer;
 use std::alloc::{AllocError, Global};
 

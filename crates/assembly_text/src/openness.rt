@@ -1,9 +1,9 @@
 //! Why goals may hold that aren't known to.
 
 ghost use Rattle.std.specs.Prelude.{All, IfOk};
-ghost use Rattle.candidate_ir.specs.Declarations.Context.{Grows};
-ghost use Rattle.candidate_ir.specs.Declarations.References.{ArgumentsFit};
-ghost use Rattle.candidate_ir.specs.Syntax.Words.{IsArgs, IsClause, IsTy};
+ghost use Rattle.ir_trees.specs.Declarations.Context.{Grows};
+ghost use Rattle.ir_trees.specs.Declarations.References.{ArgumentsFit};
+ghost use Rattle.ir_trees.specs.Syntax.Words.{IsArgs, IsClause, IsTy};
 ghost use Rattle.candidate_eval.specs.Knowability.Calls.{HasNoParam};
 ghost use Rattle.assembly_text.specs.Explaining.{IsAsked};
 
@@ -11,11 +11,11 @@ use crate::asking::unchanged;
 use crate::explaining::AskedGoal;
 use candidate_eval::coherence::{Conflict, OrphanStop, trait_ref_is_knowable};
 use candidate_eval::eval::clauses::{predicate_in, self_ty};
-use candidate_ir::decl::context::Cx;
-use candidate_ir::ir::heads::Flag;
-use candidate_ir::ir::kinds::{Clause, InferTy, TraitRef, Ty, TyKind};
-use candidate_ir::ir::stop::Stop;
-use candidate_ir::ir::trees::Trees;
+use ir_context::decl::context::Cx;
+use ir_trees::ir::heads::Flag;
+use ir_trees::ir::kinds::{Clause, InferTy, TraitRef, Ty, TyKind};
+use ir_trees::ir::stop::Stop;
+use ir_trees::ir::trees::Trees;
 use std::alloc::Global;
 use std::convert::Infallible;
 

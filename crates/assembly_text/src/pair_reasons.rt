@@ -9,8 +9,8 @@ use crate::asking::Asking;
 use crate::checking::{ImplsWithAliases, later_impls, number_of};
 use crate::comparing::Found;
 use crate::telling::name_of_impl;
-use candidate_ir::decl::contents::ImplId;
-use candidate_ir::ir::stop::Stop;
+use ir_trees::decl::contents::ImplId;
+use ir_trees::ir::stop::Stop;
 
 /// Two impls that may overlap.
 #[derive(Clone, Copy)]

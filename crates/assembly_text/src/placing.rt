@@ -9,7 +9,7 @@ ghost use Rattle.std.specs.Prelude.{◌+◌, ◌≤◌, IfSome, length};
 use crate::lines::{read_anew, without_mark};
 use assembly_notation::faults::Fault;
 use assembly_notation::words::{Words, end_of_words, first_bad_byte, is_blank, without_return};
-use candidate_ir::ir::stop::Stop;
+use ir_trees::ir::stop::Stop;
 use std::alloc::Global;
 
 /// A line that ended the run.

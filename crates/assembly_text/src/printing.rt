@@ -2,13 +2,13 @@
 
 ghost use Rattle.std.specs.Prelude.{◌≡◌, ◌<◌, ◌++◌, [], true, Ok, Err, Option, Result, All, IfErr, IfOk, IfSome, OnOk, string_bytes};
 ghost use Rattle.std.specs.Option.{option_copied};
-ghost use Rattle.candidate_ir.specs.Syntax.Words.{IsTy, IsArgs, args_forest, ty_tree};
+ghost use Rattle.ir_trees.specs.Syntax.Words.{IsTy, IsArgs, args_forest, ty_tree};
 ghost use Rattle.candidate_eval.specs.Knowability.Answers.{AreAnswerTypes, AreErrorTypes, answer_of, entries_of, is_first_input};
 ghost use Rattle.overlaps.specs.declared.overlap.Overlap.{Overlap};
 ghost use Rattle.candidate_eval.specs.declared.coherence.Conflict.{Conflict};
 ghost use Rattle.candidate_rounds.specs.declared.rounds.goals.Verdict.{Verdict};
 ghost use Rattle.assembly_text.specs.Printing.{AddsAnswer, AddsEntries, AddsEntry, AddsError, AddsLocal, AddsTypeAfter, AddsVerdict, AddsWord, first_text, known_text, verdict_text, verdict_words, way_text};
-ghost use Rattle.candidate_ir.specs.Declarations.Context.{Grows};
+ghost use Rattle.ir_trees.specs.Declarations.Context.{Grows};
 ghost use Rattle.assembly_text.specs.Normalizing.{AddsListAfter, AddsNormalWords, AddsType, IsNormal, type_text};
 ghost use Rattle.overlaps.specs.declared.overlap.WhereClause.{WhereClause};
 ghost use Rattle.assembly_text.specs.Negating.{AddsNegation, negated_text};
@@ -24,14 +24,14 @@ use candidate_eval::coherence::{
     Conflict, IsFirstInputType, OrphanCheckErr, OrphanStop, UncoveredTyParams,
 };
 use candidate_eval::eval::certainty::Certainty;
-use candidate_ir::decl::contents::ImplId;
-use candidate_ir::decl::context::Cx;
-use candidate_ir::decl::make::Build;
-use candidate_ir::ir::kinds::{Args, Ty};
-use candidate_ir::ir::stop::Stop;
-use candidate_ir::ir::trees::Trees;
 use candidate_rounds::rounds::goals::Verdict;
 use candidate_rounds::rounds::normalizing::canonical_args;
+use ir_context::decl::context::Cx;
+use ir_context::decl::make::Build;
+use ir_trees::decl::contents::ImplId;
+use ir_trees::ir::kinds::{Args, Ty};
+use ir_trees::ir::stop::Stop;
+use ir_trees::ir::trees::Trees;
 use overlaps::allowance::Allowance;
 use overlaps::instance::CommonInstance;
 use overlaps::overlap::{Overlap, WhereClause};

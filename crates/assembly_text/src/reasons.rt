@@ -1,9 +1,9 @@
 //! Why two impls overlap, may overlap or don't: the lines behind what is said of them.
 
 ghost use Rattle.std.specs.Prelude.{◌≡◌, ◌<◌, [], All, IfOk, IfSome, List, OnOk, string_bytes};
-ghost use Rattle.candidate_ir.specs.Declarations.Context.{Grows};
-ghost use Rattle.candidate_ir.specs.Syntax.Trees.{Tree};
-ghost use Rattle.candidate_ir.specs.Syntax.Words.{IsArgs, IsClause};
+ghost use Rattle.ir_trees.specs.Declarations.Context.{Grows};
+ghost use Rattle.ir_trees.specs.Syntax.Trees.{Tree};
+ghost use Rattle.ir_trees.specs.Syntax.Words.{IsArgs, IsClause};
 ghost use Rattle.assembly_notation.specs.Given.{GivenFits};
 ghost use Rattle.assembly_text.specs.Asking.{declared_part};
 ghost use Rattle.assembly_text.specs.Reasons.{AddsMore, AddsOverlapAndMore, AddsSomeOverlapAndMore, AreReasoned};
@@ -19,18 +19,18 @@ use assembly_notation::types::{MAX_DEPTH, Scope, UNSPELLED};
 use assembly_notation::words::Words;
 use candidate_eval::coherence::Conflict;
 use candidate_eval::eval::clauses::predicate_in;
-use candidate_ir::decl::contents::ImplId;
-use candidate_ir::decl::context::Cx;
-use candidate_ir::decl::make::Build;
-use candidate_ir::ir::heads::Flag;
-use candidate_ir::ir::kinds::{
+use candidate_rounds::rounds::Rounds;
+use candidate_rounds::rounds::normalizing::canonical_args;
+use ir_context::decl::context::Cx;
+use ir_context::decl::make::Build;
+use ir_trees::decl::contents::ImplId;
+use ir_trees::ir::heads::Flag;
+use ir_trees::ir::kinds::{
     AliasTerm, AliasTy, Clause, ClauseKind, GenericArg, PredicatePolarity, TraitPredicate,
     TraitRef, TyKind,
 };
-use candidate_ir::ir::stop::Stop;
-use candidate_ir::ir::trees::Trees;
-use candidate_rounds::rounds::Rounds;
-use candidate_rounds::rounds::normalizing::canonical_args;
+use ir_trees::ir::stop::Stop;
+use ir_trees::ir::trees::Trees;
 use overlaps::overlap::{Overlap, WhereClause};
 use overlaps::reasons::{Cause, OpenClause, open_clauses};
 use std::alloc::Global;

@@ -1,7 +1,7 @@
 //! Why a goal is refused, as far as declarations say it; and reasons behind answers that have none of their own.
 
-ghost use Rattle.candidate_ir.specs.Declarations.References.{ArgumentsFit};
-ghost use Rattle.candidate_ir.specs.Syntax.Words.{IsArgs, IsClause};
+ghost use Rattle.ir_trees.specs.Declarations.References.{ArgumentsFit};
+ghost use Rattle.ir_trees.specs.Syntax.Words.{IsArgs, IsClause};
 
 use crate::asking::{Asking, Query};
 use crate::checking::rounds_alone;
@@ -10,13 +10,13 @@ use assembly_notation::faults::Fault;
 use assembly_notation::types::Scope;
 use assembly_notation::words::Words;
 use candidate_eval::eval::clauses::{predicate_in, self_ty};
-use candidate_ir::decl::UnifyCount;
-use candidate_ir::decl::contents::{ImplId, ImplPolarity, LangItem};
-use candidate_ir::decl::context::Cx;
-use candidate_ir::ir::kinds::{Args, Clause, PredicatePolarity, TraitId, TraitPredicate};
-use candidate_ir::ir::stop::Stop;
-use candidate_ir::ir::trees::Trees;
-use candidate_ir::ir::unify::RightSide;
+use ir_context::decl::UnifyCount;
+use ir_context::decl::context::Cx;
+use ir_trees::decl::contents::{ImplId, ImplPolarity, LangItem};
+use ir_trees::ir::kinds::{Args, Clause, PredicatePolarity, TraitId, TraitPredicate};
+use ir_trees::ir::stop::Stop;
+use ir_trees::ir::trees::Trees;
+use ir_trees::ir::unify::RightSide;
 
 /// Why a goal is refused.
 #[derive(Clone, Copy)]

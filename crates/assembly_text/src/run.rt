@@ -10,7 +10,7 @@ use crate::options::Options;
 use crate::placing::BadLine;
 use crate::stops::{STOPS, words_of_stop};
 use assembly_notation::faults::Fault;
-use candidate_ir::ir::stop::Stop;
+use ir_trees::ir::stop::Stop;
 use std::alloc::{AllocError, Global};
 use std::io;
 use std::io::{BufWriter, Read, Write};

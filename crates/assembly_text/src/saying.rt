@@ -7,8 +7,8 @@ use assembly_notation::faults::Fault;
 use assembly_notation::names::{Names, Origin};
 use assembly_notation::shapes::{Slot, range_of};
 use assembly_notation::words::Words;
-use candidate_ir::decl::builder::DeclFault;
-use candidate_ir::ir::stop::Stop;
+use ir_trees::decl::fault::DeclFault;
+use ir_trees::ir::stop::Stop;
 use std::alloc::{AllocError, Global};
 
 /// Adds a line that says where the fault comes in, and what is wrong, where these are the names that are declared.

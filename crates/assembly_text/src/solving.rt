@@ -1,11 +1,11 @@
 //! What a goal comes to under what is given.
 
 ghost use Rattle.std.specs.Prelude.{◌≡◌, ◌<◌, [], true, IfErr, IfOk, IfSome, MatchOption, OnOk};
-ghost use Rattle.candidate_ir.specs.Declarations.Context.{Grows};
-ghost use Rattle.candidate_ir.specs.Declarations.References.{ArgumentsFit};
-ghost use Rattle.candidate_ir.specs.declared.ir.stop.Stop.{Stop};
-ghost use Rattle.candidate_ir.specs.Syntax.Binders.{escapes};
-ghost use Rattle.candidate_ir.specs.Syntax.Words.{ClauseListFits, IsArgs, args_forest};
+ghost use Rattle.ir_trees.specs.Declarations.Context.{Grows};
+ghost use Rattle.ir_trees.specs.Declarations.References.{ArgumentsFit};
+ghost use Rattle.ir_trees.specs.declared.ir.stop.Stop.{Stop};
+ghost use Rattle.ir_trees.specs.Syntax.Binders.{escapes};
+ghost use Rattle.ir_trees.specs.Syntax.Words.{ClauseListFits, IsArgs, args_forest};
 ghost use Rattle.candidate_assembly.specs.Goals.KindShown.{IsGoal, trait_kind};
 ghost use Rattle.candidate_eval.specs.Knowability.Calls.{HasNoParam};
 ghost use Rattle.candidate_rounds.specs.Evaluators.Interface.{fixed};
@@ -25,21 +25,21 @@ use candidate_eval::eval::mode::TypingMode;
 use candidate_eval::eval::refusal::NoSolutionOrStop;
 use candidate_eval::eval::response::CanonicalResponse;
 use candidate_eval::eval::variable::VariableKind;
-use candidate_ir::decl::contents::ImplId;
-use candidate_ir::decl::context::Cx;
-use candidate_ir::decl::make::{Build, Make};
-use candidate_ir::ir::heads::VariableSort;
-use candidate_ir::ir::kinds::{
-    AliasTy, Args, Binder, Clause, ClauseKind, Goal, GoalSource, InferTy, ParamEnv, TraitPredicate,
-    Ty, TyKind,
-};
-use candidate_ir::ir::marks::Unsolved;
-use candidate_ir::ir::stop::Stop;
-use candidate_ir::ir::trees::Trees;
 use candidate_rounds::rounds::Rounds;
 use candidate_rounds::rounds::given::may_be_listed;
 use candidate_rounds::rounds::goals::Verdict;
 use candidate_rounds::rounds::normalizing::trait_predicate;
+use ir_context::decl::context::Cx;
+use ir_context::decl::make::{Build, Make};
+use ir_trees::decl::contents::ImplId;
+use ir_trees::ir::heads::VariableSort;
+use ir_trees::ir::kinds::{
+    AliasTy, Args, Binder, Clause, ClauseKind, Goal, GoalSource, InferTy, ParamEnv, TraitPredicate,
+    Ty, TyKind,
+};
+use ir_trees::ir::marks::Unsolved;
+use ir_trees::ir::stop::Stop;
+use ir_trees::ir::trees::Trees;
 use overlaps::negation::kept_apart_by_negation;
 use overlaps::overlap::{Overlap, WhereClause, impls_overlap, impls_overlap_anyway};
 use overlaps::specializing::{Specialization, specializes};

@@ -1,6 +1,6 @@
 //! Why queries stop, in words.
 
-use candidate_ir::ir::stop::Stop;
+use ir_trees::ir::stop::Stop;
 
 /// The stops, and how a line of `check` ends that says one.
 pub(crate) const STOPS: [(Stop, &str); 7] = [

@@ -1,8 +1,8 @@
 //! The queries that say why a goal comes to what it does, and by which candidates.
 
 ghost use Rattle.std.specs.Prelude.{◌≡◌, ◌<◌, [], Ok, All, IfErr, IfOk, IfSome, OnOk, string_bytes};
-ghost use Rattle.candidate_ir.specs.Declarations.Context.{Grows};
-ghost use Rattle.candidate_ir.specs.Syntax.Words.{IsArgs, IsClause, IsTy};
+ghost use Rattle.ir_trees.specs.Declarations.Context.{Grows};
+ghost use Rattle.ir_trees.specs.Syntax.Words.{IsArgs, IsClause, IsTy};
 ghost use Rattle.candidate_rounds.specs.Table.Goals.{Each};
 ghost use Rattle.candidate_rounds.specs.Table.Steps.{IsStep};
 ghost use Rattle.assembly_text.specs.Asking.{AddsSomeCandidates, AddsSomeValues, declared_part};
@@ -20,14 +20,14 @@ use assembly_notation::types::{MAX_DEPTH, Scope, UNSPELLED};
 use assembly_notation::words::Words;
 use candidate_eval::eval::clauses::predicate_in;
 use candidate_eval::eval::source::{BuiltinImplSource, CandidateSource, ParamEnvSource};
-use candidate_ir::decl::contents::{AliasBoundKind, ImplId};
-use candidate_ir::decl::context::Cx;
-use candidate_ir::ir::kinds::{
+use candidate_rounds::rounds::derivation::DerivationStep;
+use ir_context::decl::context::Cx;
+use ir_trees::decl::contents::{AliasBoundKind, ImplId};
+use ir_trees::ir::kinds::{
     Args, Clause, GenericArg, InferTy, PredicatePolarity, TraitPredicate, Ty, TyKind,
 };
-use candidate_ir::ir::stop::Stop;
-use candidate_ir::ir::trees::Trees;
-use candidate_rounds::rounds::derivation::DerivationStep;
+use ir_trees::ir::stop::Stop;
+use ir_trees::ir::trees::Trees;
 
 impl<'a> Asking<'a> {
     /// Makes the answer to a line that asks why a goal comes to what it does.

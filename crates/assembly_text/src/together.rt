@@ -1,8 +1,8 @@
 //! What is said of two impls that may overlap: whether what their where clauses say keeps them apart, all together or one of them alone.
 
 ghost use Rattle.std.specs.Prelude.{◌≡◌, ◌<◌, None, Ok, IfErr, IfOk, IfSome, OnOk, string_bytes};
-ghost use Rattle.candidate_ir.specs.Declarations.Context.{Grows};
-ghost use Rattle.candidate_ir.specs.Syntax.Words.{IsArgs};
+ghost use Rattle.ir_trees.specs.Declarations.Context.{Grows};
+ghost use Rattle.ir_trees.specs.Syntax.Words.{IsArgs};
 ghost use Rattle.overlaps.specs.declared.overlap.Overlap.{Overlap};
 ghost use Rattle.assembly_text.specs.Negating.{AddsOverlap, AddsUnlessApart, AddsUnlessNegated, IsDecided};
 ghost use Rattle.assembly_text.specs.Overlapping.{IsOverlapStopped};
@@ -11,8 +11,8 @@ ghost use Rattle.assembly_text.specs.Together.{IsApartAnswered};
 
 use crate::asking::Asking;
 use crate::solving::{apart_by_clauses, negated_clause};
-use candidate_ir::decl::contents::ImplId;
-use candidate_ir::ir::stop::Stop;
+use ir_trees::decl::contents::ImplId;
+use ir_trees::ir::stop::Stop;
 use overlaps::instance::CommonInstance;
 use overlaps::overlap::{Overlap, WhereClause};
 

@@ -4,11 +4,11 @@ mod table;
 mod walk;
 
 ghost use Rattle.std.specs.Prelude.{◌≡◌, ◌≢◌, ◌||◌, List, false, not, IfOk, IfSome, IsTrue};
-ghost use Rattle.candidate_ir.specs.Declarations.Context.{Grows, world};
-ghost use Rattle.candidate_ir.specs.Syntax.Flags.{mark};
-ghost use Rattle.candidate_ir.specs.Declarations.References.{ArgumentsFit};
-ghost use Rattle.candidate_ir.specs.Syntax.Trees.{holds, is_alias};
-ghost use Rattle.candidate_ir.specs.Syntax.Words.{IsTy, IsArgs, args_forest};
+ghost use Rattle.ir_trees.specs.Declarations.Context.{Grows, world};
+ghost use Rattle.ir_trees.specs.Syntax.Flags.{mark};
+ghost use Rattle.ir_trees.specs.Declarations.References.{ArgumentsFit};
+ghost use Rattle.ir_trees.specs.Syntax.Trees.{holds, is_alias};
+ghost use Rattle.ir_trees.specs.Syntax.Words.{IsTy, IsArgs, args_forest};
 ghost use Rattle.candidate_eval.specs.Knowability.Orphan.{Entry, NonLocalInput, local_or_fundamental};
 ghost use Rattle.candidate_eval.specs.Knowability.Normalizer.{StopsWith, MayNormalize, KeepsNumbers, IsNormalizer, IsLeftByCalls, IsChangedByCalls};
 ghost use Rattle.candidate_eval.specs.Knowability.Laws.{ProperThenCompat, RemoteLaw, FirstInputLaw, OnlyFirst, LinkSafety};
@@ -19,11 +19,11 @@ ghost use Rattle.candidate_eval.specs.Calls.Second.{FindsAsDefined};
 
 use crate::coherence::walk::{EarlyExit, Walk, visit_args};
 use crate::eval::InferCtxtLike;
-use candidate_ir::decl::Cx;
-use candidate_ir::ir::heads::Flag;
-use candidate_ir::ir::kinds::{Args, TraitRef, Ty};
-use candidate_ir::ir::stop::Stop;
-use candidate_ir::ir::trees::Trees;
+use ir_context::decl::Cx;
+use ir_trees::ir::heads::Flag;
+use ir_trees::ir::kinds::{Args, TraitRef, Ty};
+use ir_trees::ir::stop::Stop;
+use ir_trees::ir::trees::Trees;
 use std::alloc::Global;
 use std::fmt;
 

@@ -14,14 +14,14 @@ pub mod source;
 pub mod variable;
 
 ghost use Rattle.std.specs.Prelude.{◌≡◌, false, refl};
-ghost use Rattle.candidate_ir.specs.Declarations.Context.{Context};
-ghost use Rattle.candidate_ir.specs.Syntax.Trees.{Tree};
-ghost use Rattle.candidate_ir.specs.Syntax.Words.{IsTy, ty_tree};
+ghost use Rattle.ir_trees.specs.Declarations.Context.{Context};
+ghost use Rattle.ir_trees.specs.Syntax.Trees.{Tree};
+ghost use Rattle.ir_trees.specs.Syntax.Words.{IsTy, ty_tree};
 ghost use Rattle.candidate_eval.specs.Knowability.Orphan.{is_variable};
 
-use candidate_ir::decl::Cx;
-use candidate_ir::decl::make::Make;
-use candidate_ir::ir::kinds::Ty;
+use ir_context::decl::Cx;
+use ir_context::decl::make::Make;
+use ir_trees::ir::kinds::Ty;
 
 /// A context whose variables may have values.
 pub trait InferCtxtLike: Make {

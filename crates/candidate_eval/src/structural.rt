@@ -6,8 +6,8 @@ pub mod destruct;
 pub(crate) mod making;
 pub mod tables;
 
-use candidate_ir::decl::contents::Sizedness;
-use candidate_ir::ir::kinds::{Ty, Vars};
+use ir_trees::decl::contents::Sizedness;
+use ir_trees::ir::kinds::{Ty, Vars};
 
 /// A column of the tables.
 #[derive(Clone, Copy)]

@@ -1,39 +1,22 @@
 //! Declarations: a builder that takes them, and the context that types are made in.
 
-pub mod answering;
-pub mod arity;
-pub mod builder;
-pub mod contents;
-pub mod context;
-pub mod cycles;
-pub mod definition;
-pub mod elaborate;
-pub mod fault_places;
-pub mod faults;
-pub mod finishing;
-pub mod fold;
-pub(crate) mod heads;
-pub mod held;
-pub mod impls;
-pub mod limits;
-pub mod lookup;
-pub mod make;
-pub mod misplaced;
-pub mod open;
-pub mod owned;
-pub mod parameters;
-pub mod plain;
-pub mod subst;
-pub mod supers;
-pub mod unify_count;
-
-pub use builder::{DeclFault, Decls, DeclsBuilder};
-pub use contents::{
+pub use ir_builder::decl::builder::DeclsBuilder;
+pub use ir_builder::decl::fault_places::{DeclError, FaultPlace};
+pub use ir_builder::decl::{builder, cycles, fault_places, faults, finishing, plain, supers};
+pub use ir_context::decl::context::Cx;
+pub use ir_context::decl::finished::Decls;
+pub use ir_context::decl::unify_count::UnifyCount;
+pub use ir_context::decl::{
+    context, finished, impls, lookup, make, owned, super_clause, unify_count,
+};
+pub use ir_folds::decl::{answering, elaborate, fold, open, parameters, subst};
+pub use ir_trees::decl::contents::{
     AliasBoundKind, AssocValue, Destructor, ImplId, ImplPolarity, LangItem, Sizedness,
 };
-pub use context::Cx;
-pub use definition::{AdtFlags, AdtShape, AliasShape, AssocKind, CrateId, FnFlags, TraitFlags};
-pub use fault_places::{DeclError, FaultPlace};
-pub use held::Owner;
-pub use limits::Limits;
-pub use unify_count::UnifyCount;
+pub use ir_trees::decl::definition::{
+    AdtFlags, AdtShape, AliasShape, AssocKind, CrateId, FnFlags, TraitFlags,
+};
+pub use ir_trees::decl::fault::DeclFault;
+pub use ir_trees::decl::held::Owner;
+pub use ir_trees::decl::limits::Limits;
+pub use ir_trees::decl::{arity, contents, definition, fault, heads, held, limits, misplaced};

@@ -1,20 +1,6 @@
 //! Types, constants and regions: their kinds, the heads of their trees, and the table that holds them.
 
-pub(crate) mod at;
-pub(crate) mod classes;
-pub mod flags;
-pub mod heads;
-pub mod kinds;
-pub mod making;
-pub mod marks;
-pub mod node;
-pub mod nodes;
-pub mod numbered;
-pub(crate) mod quiet;
-pub mod rebuild;
-pub(crate) mod seed;
-pub mod stop;
-pub mod trees;
-pub mod unify;
-pub mod walked;
-pub mod walks;
+pub use ir_trees::ir::{
+    at, classes, flags, heads, kinds, making, marks, node, nodes, numbered, quiet, rebuild, seed,
+    stop, trees, unify, walked, walks,
+};

@@ -30,8 +30,8 @@ mod writing;
 use crate::rounds::goals::Goals;
 use crate::rounds::inference::Inference;
 use candidate_eval::eval::mode::TypingMode;
-use candidate_ir::decl::context::Cx;
-use candidate_ir::ir::kinds::{AliasTy, Ty};
+use ir_context::decl::context::Cx;
+use ir_trees::ir::kinds::{AliasTy, Ty};
 use std::marker::Model;
 
 /// An evaluator that works in rounds.
@@ -58,8 +58,8 @@ pub struct Rounds {
 impl Model for Rounds {
     ghost use Rattle.std.specs.Prelude.{reverse};
     ghost use Rattle.std.specs.Coded.{codes};
-    ghost use Rattle.candidate_ir.specs.contracts.ir.heads.Head as head;
-    ghost use Rattle.candidate_ir.specs.Laws.TreeCode.{tree_code};
+    ghost use Rattle.ir_trees.specs.contracts.ir.heads.Head as head;
+    ghost use Rattle.ir_trees.specs.Laws.TreeCode.{tree_code};
     ghost use Rattle.candidate_rounds.specs.Evaluators.Known as seen;
 
     ghost Value = { seen.Evaluator };

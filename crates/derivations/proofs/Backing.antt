@@ -1,11 +1,11 @@
 -- What a judge has to grant and to equate, so that what its rules come to is derived modulo pairs.
 use Rattle.std.proofs.Common.{◌≡◌, ℕ, List, Some, false}
-use Rattle.candidate_ir.specs.declared.decl.limits.Limits.{Limits}
-use Rattle.candidate_ir.specs.Declarations.Context.{Context}
-use Rattle.candidate_ir.specs.Declarations.Worlds.{World}
-use Rattle.candidate_ir.specs.Hierarchy.Supers.{after_first}
-use Rattle.candidate_ir.specs.Syntax.Trees.{Forest, Tree, join}
-use Rattle.candidate_ir.specs.Unification.Substitutions.{Universes, alone}
+use Rattle.ir_trees.specs.declared.decl.limits.Limits.{Limits}
+use Rattle.ir_trees.specs.Declarations.Context.{Context}
+use Rattle.ir_trees.specs.Declarations.Worlds.{World}
+use Rattle.ir_trees.specs.Hierarchy.Supers.{after_first}
+use Rattle.ir_trees.specs.Syntax.Trees.{Forest, Tree, join}
+use Rattle.ir_trees.specs.Unification.Substitutions.{Universes, alone}
 use Rattle.candidate_eval.specs.Derivations.Characterization.{bound_kinds}
 use Rattle.candidate_eval.specs.Judges.Instances.{Instance, IsAllowedInto}
 use Rattle.candidate_eval.specs.Judges.Lawful.{AreGranted, Lawful}

@@ -1,14 +1,14 @@
 -- A derivation stays one where an allowed instance of what is left open is put in.
 use Rattle.std.proofs.Common.{◌≡◌, ℕ, List, refl, sym, ap, subst, ◌∙◌}
-use Rattle.candidate_ir.specs.declared.decl.contents.AliasBoundKind.{AliasBoundKind}
-use Rattle.candidate_ir.specs.declared.ir.heads.Head.{Head}
-use Rattle.candidate_ir.specs.declared.ir.kinds.AssocId.{AssocId}
-use Rattle.candidate_ir.specs.Declarations.Context.{Context}
-use Rattle.candidate_ir.specs.Instantiation.Folding.{substituted_tree}
-use Rattle.candidate_ir.specs.Unification.Substitutions.{Universes, alone}
-use Rattle.candidate_ir.specs.Syntax.Trees.{Forest, Kind, join, none, tree, Tree}
-use Rattle.candidate_ir.specs.Declarations.Worlds.{kinds_of}
-use Rattle.candidate_ir.proofs.Instantiation.Folding.{begin}
+use Rattle.ir_trees.specs.declared.decl.contents.AliasBoundKind.{AliasBoundKind}
+use Rattle.ir_trees.specs.declared.ir.heads.Head.{Head}
+use Rattle.ir_trees.specs.declared.ir.kinds.AssocId.{AssocId}
+use Rattle.ir_trees.specs.Declarations.Context.{Context}
+use Rattle.ir_trees.specs.Instantiation.Folding.{substituted_tree}
+use Rattle.ir_trees.specs.Unification.Substitutions.{Universes, alone}
+use Rattle.ir_trees.specs.Syntax.Trees.{Forest, Kind, join, none, tree, Tree}
+use Rattle.ir_trees.specs.Declarations.Worlds.{kinds_of}
+use Rattle.ir_trees.proofs.Instantiation.Folding.{begin}
 use Rattle.candidate_eval.specs.Derivations.ImplRules.{TraitGoal}
 use Rattle.candidate_eval.specs.Judges.Instances.{Instance, IsAllowedInto, instance}
 use Rattle.candidate_eval.specs.Dynamic.ObjectRequirements.{first_tree}

@@ -3,11 +3,11 @@ use Rattle.std.proofs.Common.{sym, ◌≡◌, Bool, true, false, Option, [], ◌
 use Rattle.std.specs.Prelude.{if◌then◌else◌}
 use Rattle.std.specs.List.{All, Contains}
 use Rattle.std.proofs.lemmas.List.Elements.{All-append, All-cons, All-contains, All-contains_itself, All-head, All-nil, All-tail, All-weaker, Contains-append_left}
-use Rattle.candidate_ir.specs.Declarations.Context.{Context, Grows}
-use Rattle.candidate_ir.specs.Syntax.Trees.{Tree}
-use Rattle.candidate_ir.specs.Validity.WellFormed.{IsWellFormedTable}
-use Rattle.candidate_ir.specs.Instantiation.Opening.{opened_clause}
-use Rattle.candidate_ir.proofs.Growth.Kept.{grows-refl, grows-trans, world-kept}
+use Rattle.ir_trees.specs.Declarations.Context.{Context, Grows}
+use Rattle.ir_trees.specs.Syntax.Trees.{Tree}
+use Rattle.ir_trees.specs.Validity.WellFormed.{IsWellFormedTable}
+use Rattle.ir_trees.specs.Instantiation.Opening.{opened_clause}
+use Rattle.ir_trees.proofs.Growth.Kept.{grows-refl, grows-trans, world-kept}
 use Rattle.candidate_eval.specs.Builtins.Callable.{all_but_last}
 use Rattle.candidate_eval.specs.Dynamic.ObjectRequirements.{arguments_of}
 use Rattle.candidate_assembly.specs.Laws.Given.{IsCounted, all_is_given}

@@ -1,11 +1,11 @@
 -- Derivations by levels: what is derived at a level is derived at each further one, and pairs of a level keep what derivations ask of pairs.
 use Rattle.std.proofs.Common.{◌≡◌, ◌⊎◌, inl, inr, ℕ, zero, suc, List, ap, refl, ◌∙◌}
-use Rattle.candidate_ir.specs.declared.decl.contents.AliasBoundKind.{AliasBoundKind}
-use Rattle.candidate_ir.specs.declared.ir.heads.Head.{Head}
-use Rattle.candidate_ir.specs.Declarations.Context.{Context}
-use Rattle.candidate_ir.specs.Instantiation.Folding.{substituted_tree}
-use Rattle.candidate_ir.specs.Syntax.Trees.{Forest, Tree, none}
-use Rattle.candidate_ir.specs.Unification.Substitutions.{Universes, alone}
+use Rattle.ir_trees.specs.declared.decl.contents.AliasBoundKind.{AliasBoundKind}
+use Rattle.ir_trees.specs.declared.ir.heads.Head.{Head}
+use Rattle.ir_trees.specs.Declarations.Context.{Context}
+use Rattle.ir_trees.specs.Instantiation.Folding.{substituted_tree}
+use Rattle.ir_trees.specs.Syntax.Trees.{Forest, Tree, none}
+use Rattle.ir_trees.specs.Unification.Substitutions.{Universes, alone}
 use Rattle.candidate_eval.specs.Derivations.Rules.{Rule, Step}
 use Rattle.candidate_eval.specs.Judges.Instances.{Instance, IsAllowedInto, instance}
 use Rattle.candidate_eval.specs.Judges.States.{Env, valued, valued_tree}

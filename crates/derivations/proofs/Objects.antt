@@ -2,13 +2,13 @@
 use Rattle.std.proofs.Common.{◌≡◌, ◌⊎◌, inl, inr, ℕ, true, false, Some, List, [], ◌∷◌, ◌++◌, map, length, refl, sym, ap, subst, ◌∙◌, arith}
 use Rattle.std.specs.List.{All}
 use Rattle.std.proofs.lemmas.List.Elements.{All-cons, All-nil}
-use Rattle.candidate_ir.specs.declared.decl.limits.Limits.{Limits}
-use Rattle.candidate_ir.specs.Declarations.Context.{Context, Grows}
-use Rattle.candidate_ir.specs.Declarations.Worlds.{World, kinds_of}
-use Rattle.candidate_ir.specs.Hierarchy.Elaboration.{first_children}
-use Rattle.candidate_ir.specs.Syntax.Trees.{Forest, Kind, Tree, holds, is_param, join, none, tree}
-use Rattle.candidate_ir.specs.Unification.Substitutions.{alone}
-use Rattle.candidate_ir.specs.Validity.WellFormed.{IsWellFormedTable}
+use Rattle.ir_trees.specs.declared.decl.limits.Limits.{Limits}
+use Rattle.ir_trees.specs.Declarations.Context.{Context, Grows}
+use Rattle.ir_trees.specs.Declarations.Worlds.{World, kinds_of}
+use Rattle.ir_trees.specs.Hierarchy.Elaboration.{first_children}
+use Rattle.ir_trees.specs.Syntax.Trees.{Forest, Kind, Tree, holds, is_param, join, none, tree}
+use Rattle.ir_trees.specs.Unification.Substitutions.{alone}
+use Rattle.ir_trees.specs.Validity.WellFormed.{IsWellFormedTable}
 use Rattle.candidate_eval.specs.declared.eval.certainty.Certainty.TheVariants.{Yes}
 use Rattle.candidate_eval.specs.Builtins.Callable.{all_but_last}
 use Rattle.candidate_eval.specs.Derivations.Characterization.{binder_kinds, bound_kinds}
@@ -64,7 +64,7 @@ use Rattle.derivations.proofs.Steps.{Backed, Ran, Serves, Told, ran, run_ran}
 use Rattle.derivations.proofs.Ways.{match_serves}
 
 abbrev pub world_of : Context → World
-world_of c = Rattle.candidate_ir.specs.Declarations.Context.world c
+world_of c = Rattle.ir_trees.specs.Declarations.Context.world c
 
 -- where steps begin
 abbrev begins_at : (S : State) (L : Live) → IsSound S L → ValuesFit S L → GoalsAreOf S L S.pending → MakesSense S L (start S)

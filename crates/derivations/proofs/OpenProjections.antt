@@ -3,28 +3,28 @@ use Rattle.std.proofs.Common.{◌≡◌, ℕ, zero, suc, ◌+◌, Bool, true, fa
 use Rattle.std.specs.List.{All}
 use Rattle.std.specs.Option.{unwrap_or}
 use Rattle.std.proofs.lemmas.List.Elements.{All-append, All-cons, All-nil}
-use Rattle.candidate_ir.specs.declared.ir.heads.Head.{Head}
-use Rattle.candidate_ir.specs.declared.ir.heads.Head.TheVariants as H
-use Rattle.candidate_ir.specs.declared.ir.heads.ConstHead.TheVariants as C
-use Rattle.candidate_ir.specs.declared.ir.kinds.BoundVar.{BoundVar}
-use Rattle.candidate_ir.specs.declared.ir.kinds.RegionKind.TheVariants as R
-use Rattle.candidate_ir.specs.declared.ir.kinds.VarKind.{VarKind}
-use Rattle.candidate_ir.specs.declared.ir.kinds.VarKind.TheVariants as VK
-use Rattle.candidate_ir.specs.Declarations.Worlds.{kinds_of}
-use Rattle.candidate_ir.specs.Hierarchy.Elaboration.{first_children, later_head, renumbered}
-use Rattle.candidate_ir.specs.Hierarchy.Supers.{after_first, first_head, is_self}
-use Rattle.candidate_ir.specs.Instantiation.Folding.{argument, fold, further, lacks_argument, leaf, moved, put, shift, shift_tree, substituted}
-use Rattle.candidate_ir.specs.Instantiation.Folds.{node}
-use Rattle.candidate_ir.specs.Instantiation.Opening.{bound_head, error_of, is_bound_variable, is_of, nearer, of_kind, opened_head, opened_variable}
-use Rattle.candidate_ir.specs.Syntax.Binders.{escapes, is_beyond}
-use Rattle.candidate_ir.specs.Syntax.Trees.{ConstantKind, Forest, Kind, RegionKind, TypeKind, Tree, binders_of, count, holds, is_type, is_type_kind, join, kind_of, none, tree}
-use Rattle.candidate_ir.specs.Unification.Substitutions.{alone, is_constant_kind}
-use Rattle.candidate_ir.specs.Declarations.Context.{parameter_kind}
-use Rattle.candidate_ir.proofs.Hierarchy.Elaboration.{tree_is}
-use Rattle.candidate_ir.proofs.Instantiation.Bound.{unnumbered, unopened}
-use Rattle.candidate_ir.proofs.Instantiation.Folding.{begin, fold-kinds, fold-nothing}
-use Rattle.candidate_ir.proofs.Instantiation.Opening.{bound-kind}
-use Rattle.candidate_ir.proofs.Instantiation.Quiet.{escapes-quiet}
+use Rattle.ir_trees.specs.declared.ir.heads.Head.{Head}
+use Rattle.ir_trees.specs.declared.ir.heads.Head.TheVariants as H
+use Rattle.ir_trees.specs.declared.ir.heads.ConstHead.TheVariants as C
+use Rattle.ir_trees.specs.declared.ir.kinds.BoundVar.{BoundVar}
+use Rattle.ir_trees.specs.declared.ir.kinds.RegionKind.TheVariants as R
+use Rattle.ir_trees.specs.declared.ir.kinds.VarKind.{VarKind}
+use Rattle.ir_trees.specs.declared.ir.kinds.VarKind.TheVariants as VK
+use Rattle.ir_trees.specs.Declarations.Worlds.{kinds_of}
+use Rattle.ir_trees.specs.Hierarchy.Elaboration.{first_children, later_head, renumbered}
+use Rattle.ir_trees.specs.Hierarchy.Supers.{after_first, first_head, is_self}
+use Rattle.ir_trees.specs.Instantiation.Folding.{argument, fold, further, lacks_argument, leaf, moved, put, shift, shift_tree, substituted}
+use Rattle.ir_trees.specs.Instantiation.Folds.{node}
+use Rattle.ir_trees.specs.Instantiation.Opening.{bound_head, error_of, is_bound_variable, is_of, nearer, of_kind, opened_head, opened_variable}
+use Rattle.ir_trees.specs.Syntax.Binders.{escapes, is_beyond}
+use Rattle.ir_trees.specs.Syntax.Trees.{ConstantKind, Forest, Kind, RegionKind, TypeKind, Tree, binders_of, count, holds, is_type, is_type_kind, join, kind_of, none, tree}
+use Rattle.ir_trees.specs.Unification.Substitutions.{alone, is_constant_kind}
+use Rattle.ir_trees.specs.Declarations.Context.{parameter_kind}
+use Rattle.ir_context.proofs.Hierarchy.Elaboration.{tree_is}
+use Rattle.ir_folds.proofs.Instantiation.Bound.{unnumbered, unopened}
+use Rattle.ir_trees.proofs.Instantiation.Folding.{begin, fold-kinds, fold-nothing}
+use Rattle.ir_folds.proofs.Instantiation.Opening.{bound-kind}
+use Rattle.ir_trees.proofs.Instantiation.Quiet.{escapes-quiet}
 use Rattle.candidate_eval.specs.declared.eval.variable.VariableKind.{VariableKind}
 use Rattle.candidate_eval.specs.declared.eval.variable.VariableKind.TheVariants.{Region, Term}
 use Rattle.candidate_eval.specs.Builtins.Callable.{all_but_last}

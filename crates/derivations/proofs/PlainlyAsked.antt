@@ -5,54 +5,54 @@ use Rattle.std.specs.List.{All, Contains, filter, list_any}
 use Rattle.std.proofs.lemmas.List.Elements.{All-append, All-cons, All-contains, All-head, All-nil, All-tail}
 use Rattle.std.proofs.lemmas.Bool.{lt-ltb}
 use Rattle.std.proofs.lemmas.Option.{slice_get-map}
-use Rattle.candidate_ir.specs.declared.decl.definition.AssocKind.TheVariants as A
-use Rattle.candidate_ir.specs.declared.decl.definition.DefinitionKind.{DefinitionKind}
-use Rattle.candidate_ir.specs.declared.decl.definition.DefinitionKind.TheVariants as D
-use Rattle.candidate_ir.specs.declared.decl.definition.TraitFlags.{TraitFlags}
-use Rattle.candidate_ir.specs.declared.ir.heads.ConstHead.TheVariants as C
-use Rattle.candidate_ir.specs.declared.ir.heads.ClauseHead.{ClauseHead}
-use Rattle.candidate_ir.specs.declared.ir.heads.ClauseHead.TheVariants as Cl
-use Rattle.candidate_ir.specs.declared.ir.heads.Head.{Head}
-use Rattle.candidate_ir.specs.declared.ir.heads.Head.TheVariants as H
-use Rattle.candidate_ir.specs.declared.ir.heads.ListHead.{ListHead}
-use Rattle.candidate_ir.specs.declared.ir.heads.ListHead.TheVariants as LH
-use Rattle.candidate_ir.specs.declared.ir.heads.PartHead.TheVariants as P
-use Rattle.candidate_ir.specs.declared.ir.heads.PredHead.TheVariants as PH
-use Rattle.candidate_ir.specs.declared.ir.heads.VariableSort.{VariableSort}
-use Rattle.candidate_ir.specs.declared.ir.heads.VariableSort.TheVariants as VS
-use Rattle.candidate_ir.specs.declared.ir.kinds.AssocId.{AssocId}
-use Rattle.candidate_ir.specs.declared.ir.kinds.Clause.{Clause}
-use Rattle.candidate_ir.specs.declared.ir.kinds.PredicatePolarity.TheVariants as Pol
-use Rattle.candidate_ir.specs.declared.ir.kinds.VarKind.{VarKind}
-use Rattle.candidate_ir.specs.declared.ir.kinds.VarKind.TheVariants as VK
-use Rattle.candidate_ir.specs.Declarations.Contents.{TraitContents}
-use Rattle.candidate_ir.specs.Declarations.Context.{Context, definition_of, parameter_kind, sort_of, world}
-use Rattle.candidate_ir.specs.Declarations.Declaration.{Declaration}
-use Rattle.candidate_ir.specs.Declarations.Declaring.{place_of, trait_at, trait_place}
-use Rattle.candidate_ir.specs.Declarations.Lookups.{assoc_trait, definition}
-use Rattle.candidate_ir.specs.Declarations.References.{FitsAmong}
-use Rattle.candidate_ir.specs.Declarations.Worlds.{AssociatedTypeSort, TraitSort, World, child_kinds, clause_kinds, joined, kinds_of, parameters, parameters_of, sort_number}
-use Rattle.candidate_ir.specs.Hierarchy.Elaboration.{Elaborates, IsElaboration, ended, first_children, implied, implied_by, is_there, renumbered, step, super_clauses, supers_if, trait_of, under_binder, unlisted, variables_of}
-use Rattle.candidate_ir.specs.Hierarchy.Supers.{after_first, has_wrong_super, head_says_of_type, is_no_super, is_self, is_super_clause, subject, supers_at}
-use Rattle.candidate_ir.specs.Hierarchy.Supertraits.{head_trait}
-use Rattle.candidate_ir.specs.Instantiation.Folding.{argument, lacks_argument, substituted, substituted_tree}
-use Rattle.candidate_ir.specs.Instantiation.Opening.{is_bound_variable, opened}
-use Rattle.candidate_ir.specs.Syntax.Binders.{escapes}
-use Rattle.candidate_ir.specs.Syntax.Nodes.{kind_at}
-use Rattle.candidate_ir.specs.Syntax.Trees.{BinderKind, ClauseKind, Forest, Kind, PredicateKind, Tree, TypeKind, binders_of, count, holds, is_param, is_type, is_type_kind, join, kind_of, list_kind, none, sort_kind, tree, tree_holds}
-use Rattle.candidate_ir.specs.Syntax.Words.{ClauseListFits, clause_tree}
-use Rattle.candidate_ir.specs.Unification.Substitutions.{alone, is_constant_kind}
-use Rattle.candidate_ir.specs.Validity.Held.{definitions_held, held_clause, held_clauses, impls_held, trait_held}
-use Rattle.candidate_ir.specs.Validity.Faults.{all_that_is_held, has_wrong_value}
-use Rattle.candidate_ir.specs.Validity.Misplaced.{has_self, held_escapes, kinds_of_declared, kinds_of_owner, with_self}
-use Rattle.candidate_ir.specs.Validity.WellFormed.{IsWellFormedTable}
-use Rattle.candidate_ir.proofs.Hierarchy.Walking.{all_supers_fit}
-use Rattle.candidate_ir.proofs.Instantiation.Folding.{or-left, or-right}
-use Rattle.candidate_ir.proofs.Instantiation.Joining.{binder-head}
-use Rattle.candidate_ir.proofs.Instantiation.Owned.{none-past-them, none-stray, owned-tree}
-use Rattle.candidate_ir.proofs.Kinding.References.{fit-at}
-use Rattle.candidate_ir.proofs.Syntax.Rows.{kind-of}
-use Rattle.candidate_ir.proofs.Validity.WellFormed.{any-of, definition-passes}
+use Rattle.ir_trees.specs.declared.decl.definition.AssocKind.TheVariants as A
+use Rattle.ir_trees.specs.declared.decl.definition.DefinitionKind.{DefinitionKind}
+use Rattle.ir_trees.specs.declared.decl.definition.DefinitionKind.TheVariants as D
+use Rattle.ir_trees.specs.declared.decl.definition.TraitFlags.{TraitFlags}
+use Rattle.ir_trees.specs.declared.ir.heads.ConstHead.TheVariants as C
+use Rattle.ir_trees.specs.declared.ir.heads.ClauseHead.{ClauseHead}
+use Rattle.ir_trees.specs.declared.ir.heads.ClauseHead.TheVariants as Cl
+use Rattle.ir_trees.specs.declared.ir.heads.Head.{Head}
+use Rattle.ir_trees.specs.declared.ir.heads.Head.TheVariants as H
+use Rattle.ir_trees.specs.declared.ir.heads.ListHead.{ListHead}
+use Rattle.ir_trees.specs.declared.ir.heads.ListHead.TheVariants as LH
+use Rattle.ir_trees.specs.declared.ir.heads.PartHead.TheVariants as P
+use Rattle.ir_trees.specs.declared.ir.heads.PredHead.TheVariants as PH
+use Rattle.ir_trees.specs.declared.ir.heads.VariableSort.{VariableSort}
+use Rattle.ir_trees.specs.declared.ir.heads.VariableSort.TheVariants as VS
+use Rattle.ir_trees.specs.declared.ir.kinds.AssocId.{AssocId}
+use Rattle.ir_trees.specs.declared.ir.kinds.Clause.{Clause}
+use Rattle.ir_trees.specs.declared.ir.kinds.PredicatePolarity.TheVariants as Pol
+use Rattle.ir_trees.specs.declared.ir.kinds.VarKind.{VarKind}
+use Rattle.ir_trees.specs.declared.ir.kinds.VarKind.TheVariants as VK
+use Rattle.ir_trees.specs.Declarations.Contents.{TraitContents}
+use Rattle.ir_trees.specs.Declarations.Context.{Context, definition_of, parameter_kind, sort_of, world}
+use Rattle.ir_trees.specs.Declarations.Declaration.{Declaration}
+use Rattle.ir_trees.specs.Declarations.Declaring.{place_of, trait_at, trait_place}
+use Rattle.ir_trees.specs.Declarations.Lookups.{assoc_trait, definition}
+use Rattle.ir_trees.specs.Declarations.References.{FitsAmong}
+use Rattle.ir_trees.specs.Declarations.Worlds.{AssociatedTypeSort, TraitSort, World, child_kinds, clause_kinds, joined, kinds_of, parameters, parameters_of, sort_number}
+use Rattle.ir_trees.specs.Hierarchy.Elaboration.{Elaborates, IsElaboration, ended, first_children, implied, implied_by, is_there, renumbered, step, super_clauses, supers_if, trait_of, under_binder, unlisted, variables_of}
+use Rattle.ir_trees.specs.Hierarchy.Supers.{after_first, has_wrong_super, head_says_of_type, is_no_super, is_self, is_super_clause, subject, supers_at}
+use Rattle.ir_trees.specs.Hierarchy.Supertraits.{head_trait}
+use Rattle.ir_trees.specs.Instantiation.Folding.{argument, lacks_argument, substituted, substituted_tree}
+use Rattle.ir_trees.specs.Instantiation.Opening.{is_bound_variable, opened}
+use Rattle.ir_trees.specs.Syntax.Binders.{escapes}
+use Rattle.ir_trees.specs.Syntax.Nodes.{kind_at}
+use Rattle.ir_trees.specs.Syntax.Trees.{BinderKind, ClauseKind, Forest, Kind, PredicateKind, Tree, TypeKind, binders_of, count, holds, is_param, is_type, is_type_kind, join, kind_of, list_kind, none, sort_kind, tree, tree_holds}
+use Rattle.ir_trees.specs.Syntax.Words.{ClauseListFits, clause_tree}
+use Rattle.ir_trees.specs.Unification.Substitutions.{alone, is_constant_kind}
+use Rattle.ir_trees.specs.Validity.Held.{definitions_held, held_clause, held_clauses, impls_held, trait_held}
+use Rattle.ir_trees.specs.Validity.Faults.{all_that_is_held, has_wrong_value}
+use Rattle.ir_trees.specs.Validity.Misplaced.{has_self, held_escapes, kinds_of_declared, kinds_of_owner, with_self}
+use Rattle.ir_trees.specs.Validity.WellFormed.{IsWellFormedTable}
+use Rattle.ir_context.proofs.Hierarchy.Walking.{all_supers_fit}
+use Rattle.ir_trees.proofs.Instantiation.Folding.{or-left, or-right}
+use Rattle.ir_folds.proofs.Instantiation.Joining.{binder-head}
+use Rattle.ir_context.proofs.Instantiation.Owned.{none-past-them, none-stray, owned-tree}
+use Rattle.ir_trees.proofs.Kinding.References.{fit-at}
+use Rattle.ir_trees.proofs.Syntax.Rows.{kind-of}
+use Rattle.ir_context.proofs.Validity.WellFormed.{any-of, definition-passes}
 use Rattle.candidate_eval.specs.declared.eval.source.BuiltinImplSource.TheVariants.{Misc, Object}
 use Rattle.candidate_eval.specs.declared.eval.source.CandidateSource.TheVariants.{BuiltinImpl}
 use Rattle.candidate_eval.specs.Builtins.Callable.{all_but_last}

@@ -1,17 +1,17 @@
 -- The judge by tables of goals of traits and of projections: what it grants is derived at the level above that of the tables of projections.
 use Rattle.std.proofs.Common.{◌≡◌, ◌⊎◌, inl, inr, ℕ, suc, false, List, [], Some, ap, subst}
 use Rattle.std.proofs.lemmas.List.Elements.{All-contains}
-use Rattle.candidate_ir.specs.declared.decl.limits.Limits.{Limits}
-use Rattle.candidate_ir.specs.declared.ir.heads.ClauseHead.TheVariants as Cl
-use Rattle.candidate_ir.specs.declared.ir.heads.Head.{Head}
-use Rattle.candidate_ir.specs.declared.ir.heads.Head.TheVariants as H
-use Rattle.candidate_ir.specs.declared.ir.heads.PartHead.TheVariants as P
-use Rattle.candidate_ir.specs.declared.ir.kinds.AssocId.{AssocId}
-use Rattle.candidate_ir.specs.Declarations.Context.{Context}
-use Rattle.candidate_ir.specs.Declarations.Worlds.{World}
-use Rattle.candidate_ir.specs.Syntax.Binders.{escapes}
-use Rattle.candidate_ir.specs.Syntax.Trees.{ConstantKind, Forest, Kind, Tree, kind_of, none, tree}
-use Rattle.candidate_ir.specs.Unification.Substitutions.{Universes, alone}
+use Rattle.ir_trees.specs.declared.decl.limits.Limits.{Limits}
+use Rattle.ir_trees.specs.declared.ir.heads.ClauseHead.TheVariants as Cl
+use Rattle.ir_trees.specs.declared.ir.heads.Head.{Head}
+use Rattle.ir_trees.specs.declared.ir.heads.Head.TheVariants as H
+use Rattle.ir_trees.specs.declared.ir.heads.PartHead.TheVariants as P
+use Rattle.ir_trees.specs.declared.ir.kinds.AssocId.{AssocId}
+use Rattle.ir_trees.specs.Declarations.Context.{Context}
+use Rattle.ir_trees.specs.Declarations.Worlds.{World}
+use Rattle.ir_trees.specs.Syntax.Binders.{escapes}
+use Rattle.ir_trees.specs.Syntax.Trees.{ConstantKind, Forest, Kind, Tree, kind_of, none, tree}
+use Rattle.ir_trees.specs.Unification.Substitutions.{Universes, alone}
 use Rattle.candidate_eval.specs.Derivations.ImplRules.{TraitGoal}
 use Rattle.candidate_eval.specs.Judges.Lawful.{AreGranted}
 use Rattle.candidate_eval.specs.Judges.Soundness.{universes}

@@ -1,13 +1,13 @@
 -- Goals that are equal share derivations, and what a table of which each Yes is derived grants is derived.
 use Rattle.std.proofs.Common.{◌≡◌, Some, refl, ap, subst, ◌∙◌}
-use Rattle.candidate_ir.specs.declared.ir.heads.ClauseHead.TheVariants as Cl
-use Rattle.candidate_ir.specs.declared.ir.heads.Head.{Head}
-use Rattle.candidate_ir.specs.declared.ir.heads.Head.TheVariants as H
-use Rattle.candidate_ir.specs.declared.ir.heads.PartHead.TheVariants as P
-use Rattle.candidate_ir.specs.declared.ir.kinds.AssocId.{AssocId}
-use Rattle.candidate_ir.specs.Declarations.Context.{Context}
-use Rattle.candidate_ir.specs.Unification.Substitutions.{Universes, alone}
-use Rattle.candidate_ir.specs.Syntax.Trees.{Forest, Tree}
+use Rattle.ir_trees.specs.declared.ir.heads.ClauseHead.TheVariants as Cl
+use Rattle.ir_trees.specs.declared.ir.heads.Head.{Head}
+use Rattle.ir_trees.specs.declared.ir.heads.Head.TheVariants as H
+use Rattle.ir_trees.specs.declared.ir.heads.PartHead.TheVariants as P
+use Rattle.ir_trees.specs.declared.ir.kinds.AssocId.{AssocId}
+use Rattle.ir_trees.specs.Declarations.Context.{Context}
+use Rattle.ir_trees.specs.Unification.Substitutions.{Universes, alone}
+use Rattle.ir_trees.specs.Syntax.Trees.{Forest, Tree}
 use Rattle.candidate_eval.specs.Derivations.ImplRules.{TraitGoal}
 use Rattle.candidate_eval.specs.Judges.Instances.{Instance}
 use Rattle.candidate_eval.specs.Judges.States.{Env}

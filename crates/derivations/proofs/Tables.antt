@@ -2,7 +2,7 @@
 use Rattle.std.proofs.Common.{Some, List, [], ◌∷◌, map, sym, subst}
 use Rattle.std.specs.List.{All, Contains}
 use Rattle.std.proofs.lemmas.List.Elements.{All-append, All-cons, All-contains, All-contains_itself, All-head, All-nil, All-tail, All-weaker, Contains-append_left}
-use Rattle.candidate_ir.specs.Declarations.Context.{Context}
+use Rattle.ir_trees.specs.Declarations.Context.{Context}
 use Rattle.rounds_judge.specs.Table.GoalTable.{Entry, GoalTable, unanswered, with_verdict}
 use Rattle.rounds_judge.specs.Table.Keys.{Key}
 use Rattle.rounds_judge.specs.Aliases.Listed.{Listing}

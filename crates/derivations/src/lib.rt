@@ -2,11 +2,11 @@
 #![tactic(auto)]
 
 ghost use Rattle.std.specs.Prelude.{◌≡◌};
-ghost use Rattle.candidate_ir.specs.declared.ir.heads.Head.{Head};
-ghost use Rattle.candidate_ir.specs.Declarations.Context.{Context, Grows};
-ghost use Rattle.candidate_ir.specs.Unification.Substitutions.{Universes};
-ghost use Rattle.candidate_ir.specs.Syntax.Trees.{Forest};
-ghost use Rattle.candidate_ir.specs.Validity.WellFormed.{IsWellFormedTable};
+ghost use Rattle.ir_trees.specs.declared.ir.heads.Head.{Head};
+ghost use Rattle.ir_trees.specs.Declarations.Context.{Context, Grows};
+ghost use Rattle.ir_trees.specs.Unification.Substitutions.{Universes};
+ghost use Rattle.ir_trees.specs.Syntax.Trees.{Forest};
+ghost use Rattle.ir_trees.specs.Validity.WellFormed.{IsWellFormedTable};
 ghost use Rattle.candidate_eval.specs.Derivations.ImplRules.{TraitGoal};
 ghost use Rattle.candidate_eval.specs.Judges.Instances.{Instance, IsAllowedInto};
 ghost use Rattle.candidate_eval.specs.Judges.States.{Env};

@@ -1,8 +1,8 @@
 -- A goal that a table has as a Yes has a derivation.
 use Rattle.std.proofs.Common.{◌≡◌, Bool, true, false, not, Option, Some, refl, sym, subst}
-use Rattle.candidate_ir.specs.declared.ir.kinds.ParamEnv.{ParamEnv}
-use Rattle.candidate_ir.specs.declared.ir.kinds.TraitPredicate.{TraitPredicate}
-use Rattle.candidate_ir.specs.Declarations.Context.{Context}
+use Rattle.ir_trees.specs.declared.ir.kinds.ParamEnv.{ParamEnv}
+use Rattle.ir_trees.specs.declared.ir.kinds.TraitPredicate.{TraitPredicate}
+use Rattle.ir_trees.specs.Declarations.Context.{Context}
 use Rattle.candidate_assembly.specs.Goals.KindShown.{IsGoal, trait_kind}
 use Rattle.candidate_assembly.specs.Goals.TraitGoals.{trait_goal}
 use Rattle.candidate_assembly.proofs.Calls.Keeping.{trait-goal-kept}

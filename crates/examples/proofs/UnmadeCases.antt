@@ -1,17 +1,17 @@
 -- Over an empty table nodes can be made: what says why they weren't made does not hold of every context.
 use Rattle.std.proofs.Common.{◌≡◌, ◌∙◌, ◌≤◌, ◌⊎◌, ◌||◌, ◌++◌, Bool, true, false, List, [], ◌∷◌, length, map, Option, Some, None, inl, inr, arith, refl, sym, ap, subst}
-use Rattle.candidate_ir.specs.declared.ir.kinds.Clause.{Clause}
-use Rattle.candidate_ir.specs.declared.ir.kinds.TraitId.{TraitId}
-use Rattle.candidate_ir.specs.declared.ir.stop.Stop.TheVariants.{NodesFull}
-use Rattle.candidate_ir.specs.declared.decl.contents.LangItem.TheVariants as L
-use Rattle.candidate_ir.specs.Declarations.Context.{Context, Grows}
-use Rattle.candidate_ir.specs.Hierarchy.Elaboration.{IsElaborationStop, IsImplied, IsInstanceStop, IsRenumberStop, SuperClauses, implied_by, lists, same_tree, super_clauses}
-use Rattle.candidate_ir.specs.Instantiation.Folding.{IsSubstStop, substituted}
-use Rattle.candidate_ir.specs.Syntax.Nodes.{error_tree, tallest, tree_at}
-use Rattle.candidate_ir.specs.Syntax.Trees.{Forest, Tree, is_list_kind, none}
-use Rattle.candidate_ir.specs.Syntax.Words.{clause_tree}
-use Rattle.candidate_ir.specs.Unification.Substitutions.{alone, as_row}
-use Rattle.candidate_ir.proofs.Hierarchy.Elaboration.{tree_is}
+use Rattle.ir_trees.specs.declared.ir.kinds.Clause.{Clause}
+use Rattle.ir_trees.specs.declared.ir.kinds.TraitId.{TraitId}
+use Rattle.ir_trees.specs.declared.ir.stop.Stop.TheVariants.{NodesFull}
+use Rattle.ir_trees.specs.declared.decl.contents.LangItem.TheVariants as L
+use Rattle.ir_trees.specs.Declarations.Context.{Context, Grows}
+use Rattle.ir_trees.specs.Hierarchy.Elaboration.{IsElaborationStop, IsImplied, IsInstanceStop, IsRenumberStop, SuperClauses, implied_by, lists, same_tree, super_clauses}
+use Rattle.ir_trees.specs.Instantiation.Folding.{IsSubstStop, substituted}
+use Rattle.ir_trees.specs.Syntax.Nodes.{error_tree, tallest, tree_at}
+use Rattle.ir_trees.specs.Syntax.Trees.{Forest, Tree, is_list_kind, none}
+use Rattle.ir_trees.specs.Syntax.Words.{clause_tree}
+use Rattle.ir_trees.specs.Unification.Substitutions.{alone, as_row}
+use Rattle.ir_context.proofs.Hierarchy.Elaboration.{tree_is}
 use Rattle.candidate_eval.specs.declared.structural.Column.{Column}
 use Rattle.candidate_eval.specs.declared.structural.Column.TheVariants as C
 use Rattle.candidate_eval.specs.Builtins.Callable.{IsCallStop, IsConstCallStop}

@@ -1,6 +1,6 @@
 -- What an overlap checker may rely on.
 use Rattle.std.specs.Prelude.{◌≡◌, ℕ, Some}
-use Rattle.candidate_ir.specs.declared.decl.contents.ImplId.{ImplId}
+use Rattle.ir_trees.specs.declared.decl.contents.ImplId.{ImplId}
 use Rattle.candidate_rounds.specs.Evaluators.Known.{Evaluator, listing, state, table_of}
 use Rattle.overlaps.specs.declared.allowance.Allowance.{Allowance}
 use Rattle.overlaps.specs.Allowed.{allowance_of}

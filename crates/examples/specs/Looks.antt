@@ -1,17 +1,17 @@
 -- What the normalisers of the tests see.
 use Rattle.std.specs.Prelude.{Bool, true, false, if◌then◌else◌}
-use Rattle.candidate_ir.specs.declared.ir.heads.Builtin.TheVariants as B
-use Rattle.candidate_ir.specs.declared.ir.heads.Head.{Head}
-use Rattle.candidate_ir.specs.declared.ir.heads.Head.TheVariants as H
-use Rattle.candidate_ir.specs.declared.ir.kinds.Mutability.TheVariants as M
-use Rattle.candidate_ir.specs.declared.ir.kinds.RegionKind.TheVariants as R
-use Rattle.candidate_ir.specs.declared.ir.kinds.TraitRef.{TraitRef}
-use Rattle.candidate_ir.specs.declared.ir.kinds.UintTy.{UintTy}
-use Rattle.candidate_ir.specs.declared.ir.kinds.UintTy.TheVariants as U
-use Rattle.candidate_ir.specs.Declarations.Context.{Context, world}
-use Rattle.candidate_ir.specs.Syntax.Trees.{none, tree, Tree}
-use Rattle.candidate_ir.specs.Syntax.Words.{args_forest}
-use Rattle.candidate_ir.specs.declared.ir.stop.Stop.TheVariants.{Memory, NodesFull}
+use Rattle.ir_trees.specs.declared.ir.heads.Builtin.TheVariants as B
+use Rattle.ir_trees.specs.declared.ir.heads.Head.{Head}
+use Rattle.ir_trees.specs.declared.ir.heads.Head.TheVariants as H
+use Rattle.ir_trees.specs.declared.ir.kinds.Mutability.TheVariants as M
+use Rattle.ir_trees.specs.declared.ir.kinds.RegionKind.TheVariants as R
+use Rattle.ir_trees.specs.declared.ir.kinds.TraitRef.{TraitRef}
+use Rattle.ir_trees.specs.declared.ir.kinds.UintTy.{UintTy}
+use Rattle.ir_trees.specs.declared.ir.kinds.UintTy.TheVariants as U
+use Rattle.ir_trees.specs.Declarations.Context.{Context, world}
+use Rattle.ir_trees.specs.Syntax.Trees.{none, tree, Tree}
+use Rattle.ir_trees.specs.Syntax.Words.{args_forest}
+use Rattle.ir_trees.specs.declared.ir.stop.Stop.TheVariants.{Memory, NodesFull}
 use Rattle.candidate_eval.specs.Knowability.Calls.{depth_limit}
 use Rattle.candidate_eval.specs.Knowability.Normalizer.{Untold}
 use Rattle.candidate_eval.specs.declared.coherence.InCrate.{InCrate}

@@ -2,22 +2,22 @@
 
 ghost use Rattle.std.specs.Prelude.{◌≡◌, IfOk, Ok, true};
 ghost use Rattle.candidate_eval.specs.Knowability.Calls.{NoUnnamedHeaderHere};
-ghost use Rattle.candidate_ir.specs.Declarations.References.{ArgumentsFit};
-ghost use Rattle.candidate_ir.specs.Syntax.Words.{IsArgs};
+ghost use Rattle.ir_trees.specs.Declarations.References.{ArgumentsFit};
+ghost use Rattle.ir_trees.specs.Syntax.Words.{IsArgs};
 
 use crate::asserts::{equals, holds};
 use crate::writing::{Declared, adt, declare, may_write, reference, vec_from_local};
 use candidate_eval::coherence::{NormalizeErr, OrphanStop, trait_ref_is_knowable};
-use candidate_ir::decl::Cx;
-use candidate_ir::ir::heads::Flag;
-use candidate_ir::ir::kinds::{GenericArg, TraitRef, Ty};
-use candidate_ir::ir::stop::Stop;
-use candidate_ir::ir::trees::Trees;
+use ir_context::decl::Cx;
+use ir_trees::ir::heads::Flag;
+use ir_trees::ir::kinds::{GenericArg, TraitRef, Ty};
+use ir_trees::ir::stop::Stop;
+use ir_trees::ir::trees::Trees;
 use std::alloc::Global;
 use std::convert::Infallible;
 
 /// `Vec<LocalType>: From<Vec<LocalType>>`.
-#[tactic(auto, using(candidate_ir::proofs::Growth::Made::making))]
+#[tactic(auto, using(ir_trees::proofs::Growth::Made::making))]
 fn vec_from_vec(declared: &mut Declared) -> Result<TraitRef, Stop>
     ensures sort { IfOk result (λ r. IsArgs declared.new.cx.trees r.args) }
     ensures fit { IfOk result (λ r. ArgumentsFit declared.new.cx r) }

@@ -1,7 +1,7 @@
 //! What the client for overlap checkers answers.
 
 ghost use Rattle.std.specs.Prelude.{◌≡◌, [], IfOk};
-ghost use Rattle.candidate_ir.specs.Syntax.Words.{IsRegion, IsTy};
+ghost use Rattle.ir_trees.specs.Syntax.Words.{IsRegion, IsTy};
 ghost use Rattle.candidate_rounds.specs.Evaluators.Known.{state};
 
 use crate::apart::{Reason, kept_apart};
@@ -10,14 +10,14 @@ use crate::declared::declare;
 use crate::holds::holds;
 use crate::refused::is_refused_by_all;
 use candidate_eval::eval::mode::TypingMode;
-use candidate_ir::decl::contents::ImplId;
-use candidate_ir::decl::make::Build;
-use candidate_ir::ir::kinds::{
+use candidate_rounds::rounds::Rounds;
+use ir_context::decl::make::Build;
+use ir_trees::decl::contents::ImplId;
+use ir_trees::ir::kinds::{
     GenericArg, Mutability, PredicatePolarity, Region, RegionKind, TraitId, TraitPredicate,
     TraitRef, Ty, TyKind, UintTy,
 };
-use candidate_ir::ir::stop::Stop;
-use candidate_rounds::rounds::Rounds;
+use ir_trees::ir::stop::Stop;
 use overlaps::overlap::WhereClause;
 use std::alloc::Global;
 use std::process::Abort;

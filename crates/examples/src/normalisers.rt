@@ -1,17 +1,17 @@
 //! Checks whose normalisers make nodes, or hold a type.
 
 ghost use Rattle.std.specs.Prelude.{◌≡◌, IfOk};
-ghost use Rattle.candidate_ir.specs.Declarations.References.{ArgumentsFit};
-ghost use Rattle.candidate_ir.specs.Syntax.Words.{IsArgs, IsTy};
+ghost use Rattle.ir_trees.specs.Declarations.References.{ArgumentsFit};
+ghost use Rattle.ir_trees.specs.Syntax.Words.{IsArgs, IsTy};
 
 use crate::asserts::holds;
 use crate::normalising::{checked_as, checked_by_reference};
 use crate::writing::{Declared, adt, declare, reference};
 use candidate_eval::coherence::{InCrate, OrphanCheckMode, OrphanStop};
-use candidate_ir::decl::make::Build;
-use candidate_ir::ir::kinds::{GenericArg, TraitRef, Ty, TyKind, UintTy};
-use candidate_ir::ir::stop::Stop;
-use candidate_ir::ir::trees::Trees;
+use ir_context::decl::make::Build;
+use ir_trees::ir::kinds::{GenericArg, TraitRef, Ty, TyKind, UintTy};
+use ir_trees::ir::stop::Stop;
+use ir_trees::ir::trees::Trees;
 use std::process::Abort;
 
 const PROPER: InCrate = InCrate::Local {
@@ -19,7 +19,7 @@ const PROPER: InCrate = InCrate::Local {
 };
 
 /// `u8: From<u8>`, and the local type.
-#[tactic(auto, using(candidate_ir::proofs::Growth::Made::making))]
+#[tactic(auto, using(ir_trees::proofs::Growth::Made::making))]
 fn byte_from_byte(rt: &impl Abort, declared: &mut Declared) -> Result<(TraitRef, Ty), Stop>
     ensures sort { IfOk result (λ r. IsArgs declared.new.cx.trees r.0.args) }
     ensures fit { IfOk result (λ r. ArgumentsFit declared.new.cx r.0) }

@@ -1,9 +1,9 @@
 //! Checks whose normalisers make nodes, or hold types of the context.
 
 ghost use Rattle.std.specs.Prelude.{◌≡◌, ◌≢◌, true, IfOk, IfErr};
-ghost use Rattle.candidate_ir.specs.Declarations.Context.{Grows};
-ghost use Rattle.candidate_ir.specs.Declarations.References.{ArgumentsFit};
-ghost use Rattle.candidate_ir.specs.Syntax.Words.{IsTy, IsArgs, ty_tree};
+ghost use Rattle.ir_trees.specs.Declarations.Context.{Grows};
+ghost use Rattle.ir_trees.specs.Declarations.References.{ArgumentsFit};
+ghost use Rattle.ir_trees.specs.Syntax.Words.{IsTy, IsArgs, ty_tree};
 ghost use Rattle.candidate_eval.specs.Knowability.Answers.{OutOfMemory, answer_of};
 ghost use Rattle.candidate_eval.specs.Knowability.Calls.{HasNoParam};
 ghost use Rattle.candidate_eval.specs.Knowability.Orphan.{Sees};
@@ -12,11 +12,11 @@ ghost use Rattle.examples.specs.Looks.{is_byte, reference_to, referenced, refuse
 use candidate_eval::coherence::{
     InCrate, NormalizeErr, OrphanCheckErr, OrphanStop, orphan_check_trait_ref,
 };
-use candidate_ir::decl::Cx;
-use candidate_ir::decl::make::Build;
-use candidate_ir::ir::kinds::{Mutability, RegionKind, TraitRef, Ty, TyKind, UintTy};
-use candidate_ir::ir::stop::Stop;
-use candidate_ir::ir::trees::Trees;
+use ir_context::decl::Cx;
+use ir_context::decl::make::Build;
+use ir_trees::ir::kinds::{Mutability, RegionKind, TraitRef, Ty, TyKind, UintTy};
+use ir_trees::ir::stop::Stop;
+use ir_trees::ir::trees::Trees;
 use std::alloc::Global;
 use std::convert::Infallible;
 

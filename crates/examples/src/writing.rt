@@ -2,22 +2,24 @@
 //! asks whether the local one may write an impl of it.
 
 ghost use Rattle.std.specs.Prelude.{◌≡◌, IfOk, Ok, Some, [], ◌∷◌, map, true};
-ghost use Rattle.candidate_ir.specs.Declarations.Context.{Grows, world};
-ghost use Rattle.candidate_ir.specs.Syntax.Kinds.{arg_child, sorts};
-ghost use Rattle.candidate_ir.specs.Declarations.References.{ArgumentsFit};
-ghost use Rattle.candidate_ir.specs.Syntax.Trees.{TypeKind};
-ghost use Rattle.candidate_ir.specs.Syntax.Words.{IsTy, IsArgs, ListFits};
-ghost use Rattle.candidate_ir.specs.Declarations.Worlds.{AdtSort, TraitSort, joined, parameters};
+ghost use Rattle.ir_trees.specs.Declarations.Context.{Grows, world};
+ghost use Rattle.ir_trees.specs.Syntax.Kinds.{arg_child, sorts};
+ghost use Rattle.ir_trees.specs.Declarations.References.{ArgumentsFit};
+ghost use Rattle.ir_trees.specs.Syntax.Trees.{TypeKind};
+ghost use Rattle.ir_trees.specs.Syntax.Words.{IsTy, IsArgs, ListFits};
+ghost use Rattle.ir_trees.specs.Declarations.Worlds.{AdtSort, TraitSort, joined, parameters};
 ghost use Rattle.candidate_eval.specs.Knowability.Calls.{NoForeignHeaderHere};
 
 use candidate_eval::coherence::{
     InCrate, NormalizeErr, OrphanCheckMode, OrphanStop, orphan_check_trait_ref, trait_ref_is_plain,
 };
-use candidate_ir::decl::make::Build;
-use candidate_ir::decl::{AdtFlags, AdtShape, Cx, DeclFault, DeclsBuilder, TraitFlags};
-use candidate_ir::ir::kinds::{AdtId, GenericArg, TraitId, TraitRef, Ty, TyKind, VarKind};
-use candidate_ir::ir::stop::Stop;
-use candidate_ir::ir::trees::Trees;
+use ir_builder::decl::DeclsBuilder;
+use ir_context::decl::Cx;
+use ir_context::decl::make::Build;
+use ir_trees::decl::{AdtFlags, AdtShape, DeclFault, TraitFlags};
+use ir_trees::ir::kinds::{AdtId, GenericArg, TraitId, TraitRef, Ty, TyKind, VarKind};
+use ir_trees::ir::stop::Stop;
+use ir_trees::ir::trees::Trees;
 use std::alloc::Global;
 use std::convert::Infallible;
 
@@ -53,7 +55,7 @@ pub fn declare(alloc: Global) -> Result<Declared, DeclFault> {
 }
 
 /// The data type with these arguments, which have the kinds of its parameters.
-#[tactic(auto, using(candidate_ir::proofs::Growth::Made::making))]
+#[tactic(auto, using(ir_trees::proofs::Growth::Made::making))]
 pub fn adt(cx: &mut Cx, id: AdtId, list: &[GenericArg]) -> Result<Ty, Stop>
     requires list { ListFits cx.old.trees list.now }
     requires kinds { parameters (world cx.old) AdtSort id.0 ≡ Some (sorts (map arg_child list.now)) }
@@ -65,7 +67,7 @@ pub fn adt(cx: &mut Cx, id: AdtId, list: &[GenericArg]) -> Result<Ty, Stop>
 }
 
 /// The trait with these arguments, which have the kinds of `Self` and its parameters.
-#[tactic(auto, using(candidate_ir::proofs::Growth::Made::making))]
+#[tactic(auto, using(ir_trees::proofs::Growth::Made::making))]
 pub fn reference(cx: &mut Cx, def_id: TraitId, list: &[GenericArg]) -> Result<TraitRef, Stop>
     requires list { ListFits cx.old.trees list.now }
     requires kinds { joined (Some (TypeKind ∷ [])) (parameters (world cx.old) TraitSort def_id.0) ≡ Some (sorts (map arg_child list.now)) }
@@ -78,7 +80,7 @@ pub fn reference(cx: &mut Cx, def_id: TraitId, list: &[GenericArg]) -> Result<Tr
 }
 
 /// `Vec<LocalType>: From<LocalType>`.
-#[tactic(auto, using(candidate_ir::proofs::Growth::Made::making))]
+#[tactic(auto, using(ir_trees::proofs::Growth::Made::making))]
 pub fn vec_from_local(declared: &mut Declared) -> Result<TraitRef, Stop>
     ensures sort { IfOk result (λ r. IsArgs declared.new.cx.trees r.args) }
     ensures fit { IfOk result (λ r. ArgumentsFit declared.new.cx r) }

@@ -1,21 +1,21 @@
 -- Common instances of two headers: with fresh variables for the parameters, a substitution that maps these to the arguments makes the instance.
 use Rattle.std.proofs.Common.{◌≡◌, ℕ, false, List, [], ◌∷◌, length, map, Option, Some, refl, sym, ap, subst, ◌∙◌}
 use Rattle.std.specs.Prelude.{IfSome}
-use Rattle.candidate_ir.specs.declared.decl.contents.ImplId.{ImplId}
-use Rattle.candidate_ir.specs.declared.ir.kinds.VarKind.{VarKind}
-use Rattle.candidate_ir.specs.declared.ir.kinds.VarKind.TheVariants as P
-use Rattle.candidate_ir.specs.Declarations.Contents.{Impl}
-use Rattle.candidate_ir.specs.Declarations.Context.{Context, parameter_kind}
-use Rattle.candidate_ir.specs.Declarations.Declaring.{impl_at}
-use Rattle.candidate_ir.specs.Declarations.Lookups.{maybe}
-use Rattle.candidate_ir.specs.Declarations.Worlds.{kinds_of}
-use Rattle.candidate_ir.specs.Instantiation.Folding.{lacks_argument, substituted}
-use Rattle.candidate_ir.specs.Instantiation.Owned.{ImplIsOwned}
-use Rattle.candidate_ir.specs.Syntax.Trees.{Forest, Kind, erase, holds, kind_of}
-use Rattle.candidate_ir.specs.Unification.Substitutions.{IsAllowed, Universes, apply, is_made}
-use Rattle.candidate_ir.specs.Validity.WellFormed.{ImplIsGiven, IsWellFormedTable}
-use Rattle.candidate_ir.proofs.Instantiation.Declared.{impl_owned}
-use Rattle.candidate_ir.proofs.Validity.Given.{impl_given}
+use Rattle.ir_trees.specs.declared.decl.contents.ImplId.{ImplId}
+use Rattle.ir_trees.specs.declared.ir.kinds.VarKind.{VarKind}
+use Rattle.ir_trees.specs.declared.ir.kinds.VarKind.TheVariants as P
+use Rattle.ir_trees.specs.Declarations.Contents.{Impl}
+use Rattle.ir_trees.specs.Declarations.Context.{Context, parameter_kind}
+use Rattle.ir_trees.specs.Declarations.Declaring.{impl_at}
+use Rattle.ir_trees.specs.Declarations.Lookups.{maybe}
+use Rattle.ir_trees.specs.Declarations.Worlds.{kinds_of}
+use Rattle.ir_trees.specs.Instantiation.Folding.{lacks_argument, substituted}
+use Rattle.ir_trees.specs.Instantiation.Owned.{ImplIsOwned}
+use Rattle.ir_trees.specs.Syntax.Trees.{Forest, Kind, erase, holds, kind_of}
+use Rattle.ir_trees.specs.Unification.Substitutions.{IsAllowed, Universes, apply, is_made}
+use Rattle.ir_trees.specs.Validity.WellFormed.{ImplIsGiven, IsWellFormedTable}
+use Rattle.ir_context.proofs.Instantiation.Declared.{impl_owned}
+use Rattle.ir_context.proofs.Validity.Given.{impl_given}
 use Rattle.candidate_eval.specs.Judges.Soundness.{universe_in, universes}
 use Rattle.candidate_eval.specs.Judges.States.{State, fresh_variables, variable, variable_kind, with_fresh}
 use Rattle.candidate_assembly.specs.Answers.KnownImpls.{header_at, header_of, kinds_of_impl}

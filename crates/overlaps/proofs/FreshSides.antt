@@ -4,9 +4,9 @@ use Rattle.std.specs.Option.{unwrap_or}
 use Rattle.std.proofs.lemmas.List.Elements.{All-weaker}
 use Rattle.std.proofs.lemmas.List.{length-append, length-map}
 use Rattle.std.proofs.lemmas.Option.{slice_get-get_or, slice_get_within}
-use Rattle.candidate_ir.specs.Instantiation.Folds.{node}
-use Rattle.candidate_ir.specs.Syntax.Trees.{Kind, TypeKind, Forest, none, tree, Tree, binders_of, is_type, is_type_kind, kind_of}
-use Rattle.candidate_ir.proofs.Instantiation.Folding.{begin}
+use Rattle.ir_trees.specs.Instantiation.Folds.{node}
+use Rattle.ir_trees.specs.Syntax.Trees.{Kind, TypeKind, Forest, none, tree, Tree, binders_of, is_type, is_type_kind, kind_of}
+use Rattle.ir_trees.proofs.Instantiation.Folding.{begin}
 use Rattle.candidate_eval.specs.Judges.Alike.{info}
 use Rattle.candidate_eval.specs.Judges.Soundness.{AreLeaves, AreTreesOf, Live}
 use Rattle.candidate_eval.specs.Judges.States.{State, VariableInfo, fresh_info, resolved, variable_kind}

@@ -2,15 +2,15 @@
 -- would solve the equation. And where it is accepted, they are one.
 use Rattle.std.proofs.Common.{◌≡◌, ℕ, false, true, ◌⊎◌, inl, inr, Option, Some, None, List, length, refl, sym, ap, subst, ◌∙◌}
 use Rattle.std.specs.Prelude.{IfSome}
-use Rattle.candidate_ir.specs.declared.decl.contents.ImplId.{ImplId}
-use Rattle.candidate_ir.specs.Declarations.Context.{Context, world}
-use Rattle.candidate_ir.specs.Declarations.Contents.{Impl}
-use Rattle.candidate_ir.specs.Declarations.Declaring.{impl_at}
-use Rattle.candidate_ir.specs.Instantiation.Folding.{substituted}
-use Rattle.candidate_ir.specs.Syntax.Trees.{Kind, Forest, erase, holds, is_alias}
-use Rattle.candidate_ir.specs.Unification.Substitutions.{IsAllowed, Substitution, apply, is_made}
-use Rattle.candidate_ir.specs.Validity.WellFormed.{ImplIsGiven, IsWellFormedTable}
-use Rattle.candidate_ir.proofs.Validity.Given.{impl_given}
+use Rattle.ir_trees.specs.declared.decl.contents.ImplId.{ImplId}
+use Rattle.ir_trees.specs.Declarations.Context.{Context, world}
+use Rattle.ir_trees.specs.Declarations.Contents.{Impl}
+use Rattle.ir_trees.specs.Declarations.Declaring.{impl_at}
+use Rattle.ir_trees.specs.Instantiation.Folding.{substituted}
+use Rattle.ir_trees.specs.Syntax.Trees.{Kind, Forest, erase, holds, is_alias}
+use Rattle.ir_trees.specs.Unification.Substitutions.{IsAllowed, Substitution, apply, is_made}
+use Rattle.ir_trees.specs.Validity.WellFormed.{ImplIsGiven, IsWellFormedTable}
+use Rattle.ir_context.proofs.Validity.Given.{impl_given}
 use Rattle.candidate_eval.specs.Interface.Evaluators.{accepted, with_left}
 use Rattle.candidate_eval.specs.Judges.Lawful.{AreSides, HasLeafValues}
 use Rattle.candidate_eval.specs.Judges.Soundness.{AreLeaves, AreTreesOf, IsResolved, IsSound, Live, ValuesFit, universes}

@@ -1,27 +1,27 @@
 -- What normalising a projection says of it, by earlier contexts.
 use Rattle.std.proofs.Common.{◌≡◌, ◌++◌, ◌∷◌, [], ℕ, List, true, Option, Some, None, Result, Ok, Err, IfOk, IfErr, refl, sym, ap, subst, ◌∙◌}
 use Rattle.std.specs.Prelude.{IfSome}
-use Rattle.candidate_ir.specs.declared.ir.kinds.AliasKind.TheVariants as AK
-use Rattle.candidate_ir.specs.declared.ir.kinds.AliasTy.{AliasTy}
-use Rattle.candidate_ir.specs.declared.ir.kinds.Clause.{Clause}
-use Rattle.candidate_ir.specs.declared.ir.kinds.GenericArg.TheVariants as GA
-use Rattle.candidate_ir.specs.declared.ir.kinds.ParamEnv.{ParamEnv}
-use Rattle.candidate_ir.specs.declared.ir.kinds.TraitPredicate.{TraitPredicate}
-use Rattle.candidate_ir.specs.declared.ir.kinds.Ty.{Ty}
-use Rattle.candidate_ir.specs.declared.ir.kinds.TyKind.TheVariants as K
-use Rattle.candidate_ir.specs.declared.ir.node.Node.TheVariants as N
-use Rattle.candidate_ir.specs.declared.ir.stop.Stop.{Stop}
-use Rattle.candidate_ir.specs.Declarations.Context.{Context, Grows, world}
-use Rattle.candidate_ir.specs.Declarations.References.{Takes}
-use Rattle.candidate_ir.specs.Declarations.Worlds.{World, alias_kinds, kinds_of}
-use Rattle.candidate_ir.specs.Syntax.Nodes.{node_tree}
-use Rattle.candidate_ir.specs.Syntax.Trees.{Forest, Tree, is_alias, none as no_trees}
-use Rattle.candidate_ir.specs.Syntax.Words.{IsArgs, IsClause, IsParamEnv, IsTy, KindFits, clause_tree, env_forest, kind_tree, ty_tree}
-use Rattle.candidate_ir.specs.Unification.Substitutions.{alone}
-use Rattle.candidate_ir.proofs.Growth.Kept.{args-kept, grows-trans, ty-kept, world-kept}
-use Rattle.candidate_ir.proofs.Instantiation.Declared.{alias_fits}
-use Rattle.candidate_ir.proofs.Instantiation.Joining.{clause-kept}
-use Rattle.candidate_ir.proofs.Syntax.Lists.{node_tree-append}
+use Rattle.ir_trees.specs.declared.ir.kinds.AliasKind.TheVariants as AK
+use Rattle.ir_trees.specs.declared.ir.kinds.AliasTy.{AliasTy}
+use Rattle.ir_trees.specs.declared.ir.kinds.Clause.{Clause}
+use Rattle.ir_trees.specs.declared.ir.kinds.GenericArg.TheVariants as GA
+use Rattle.ir_trees.specs.declared.ir.kinds.ParamEnv.{ParamEnv}
+use Rattle.ir_trees.specs.declared.ir.kinds.TraitPredicate.{TraitPredicate}
+use Rattle.ir_trees.specs.declared.ir.kinds.Ty.{Ty}
+use Rattle.ir_trees.specs.declared.ir.kinds.TyKind.TheVariants as K
+use Rattle.ir_trees.specs.declared.ir.node.Node.TheVariants as N
+use Rattle.ir_trees.specs.declared.ir.stop.Stop.{Stop}
+use Rattle.ir_trees.specs.Declarations.Context.{Context, Grows, world}
+use Rattle.ir_trees.specs.Declarations.References.{Takes}
+use Rattle.ir_trees.specs.Declarations.Worlds.{World, alias_kinds, kinds_of}
+use Rattle.ir_trees.specs.Syntax.Nodes.{node_tree}
+use Rattle.ir_trees.specs.Syntax.Trees.{Forest, Tree, is_alias, none as no_trees}
+use Rattle.ir_trees.specs.Syntax.Words.{IsArgs, IsClause, IsParamEnv, IsTy, KindFits, clause_tree, env_forest, kind_tree, ty_tree}
+use Rattle.ir_trees.specs.Unification.Substitutions.{alone}
+use Rattle.ir_trees.proofs.Growth.Kept.{args-kept, grows-trans, ty-kept, world-kept}
+use Rattle.ir_context.proofs.Instantiation.Declared.{alias_fits}
+use Rattle.ir_folds.proofs.Instantiation.Joining.{clause-kept}
+use Rattle.ir_trees.proofs.Syntax.Lists.{node_tree-append}
 use Rattle.candidate_eval.specs.declared.eval.certainty.Certainty.TheVariants.{Yes}
 use Rattle.candidate_eval.specs.declared.eval.response.CanonicalResponse.{CanonicalResponse}
 use Rattle.candidate_eval.specs.Derivations.ImplRules.{TraitGoal}

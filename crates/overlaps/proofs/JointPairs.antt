@@ -1,18 +1,18 @@
 -- Goals of two impls that can't hold together: of open impls, of declared ones, and in a probe.
 use Rattle.std.proofs.Common.{◌≡◌, ◌≤◌, ◌+◌, ◌++◌, ◌∷◌, [], ℕ, List, Some, drop, length, refl, sym, ap, subst, ◌∙◌}
 use Rattle.std.proofs.lemmas.List.{append-nil, append_assoc, drop_all}
-use Rattle.candidate_ir.specs.declared.decl.contents.ImplId.{ImplId}
-use Rattle.candidate_ir.specs.declared.ir.kinds.Clause.{Clause}
-use Rattle.candidate_ir.specs.declared.ir.kinds.ParamEnv.{ParamEnv}
-use Rattle.candidate_ir.specs.declared.ir.kinds.GoalSource.TheVariants.{ImplWhereBound}
-use Rattle.candidate_ir.specs.Declarations.Context.{Context, Grows}
-use Rattle.candidate_ir.specs.Declarations.Contents.{Impl}
-use Rattle.candidate_ir.specs.Declarations.Declaring.{impl_at}
-use Rattle.candidate_ir.specs.Instantiation.Folding.{substituted_tree}
-use Rattle.candidate_ir.specs.Syntax.Trees.{Forest, none}
-use Rattle.candidate_ir.specs.Syntax.Words.{ClauseListFits, IsClause, IsParamEnv, args_forest, clause_tree, env_forest}
-use Rattle.candidate_ir.proofs.Growth.Kept.{args-kept, grows-refl, grows-trans}
-use Rattle.candidate_ir.proofs.Instantiation.Joining.{clause-kept}
+use Rattle.ir_trees.specs.declared.decl.contents.ImplId.{ImplId}
+use Rattle.ir_trees.specs.declared.ir.kinds.Clause.{Clause}
+use Rattle.ir_trees.specs.declared.ir.kinds.ParamEnv.{ParamEnv}
+use Rattle.ir_trees.specs.declared.ir.kinds.GoalSource.TheVariants.{ImplWhereBound}
+use Rattle.ir_trees.specs.Declarations.Context.{Context, Grows}
+use Rattle.ir_trees.specs.Declarations.Contents.{Impl}
+use Rattle.ir_trees.specs.Declarations.Declaring.{impl_at}
+use Rattle.ir_trees.specs.Instantiation.Folding.{substituted_tree}
+use Rattle.ir_trees.specs.Syntax.Trees.{Forest, none}
+use Rattle.ir_trees.specs.Syntax.Words.{ClauseListFits, IsClause, IsParamEnv, args_forest, clause_tree, env_forest}
+use Rattle.ir_trees.proofs.Growth.Kept.{args-kept, grows-refl, grows-trans}
+use Rattle.ir_folds.proofs.Instantiation.Joining.{clause-kept}
 use Rattle.candidate_eval.specs.Judges.States.{Pending, State}
 use Rattle.candidate_assembly.specs.Answers.KnownImpls.{header_at}
 use Rattle.candidate_rounds.specs.Evaluators.Interface.{Fixed, fixed, judge_of}

@@ -3,15 +3,15 @@ use Rattle.std.proofs.Common.{◌≡◌, ◌<◌, ℕ, zero, suc, ◌+◌, Bool,
 use Rattle.std.specs.Option.{unwrap_or}
 use Rattle.std.proofs.lemmas.Bool.{and_parts, ltb-true}
 use Rattle.std.proofs.lemmas.List.Elements.{All-weaker}
-use Rattle.candidate_ir.specs.declared.ir.heads.ConstHead.TheVariants as C
-use Rattle.candidate_ir.specs.declared.ir.heads.Head.{Head}
-use Rattle.candidate_ir.specs.declared.ir.heads.Head.TheVariants as H
-use Rattle.candidate_ir.specs.Instantiation.Folding.{argument, lacks_argument, put, shift_tree, substituted}
-use Rattle.candidate_ir.specs.Instantiation.Folds.{node}
-use Rattle.candidate_ir.specs.Syntax.Binders.{escapes}
-use Rattle.candidate_ir.specs.Syntax.Trees.{Kind, Forest, none, tree, Tree, binders_of, count, holds, is_alias, is_param, is_type, kind_of}
-use Rattle.candidate_ir.specs.Unification.Substitutions.{alone, is_constant_kind, is_made}
-use Rattle.candidate_ir.proofs.Instantiation.Folding.{begin, fold-nothing, substituted-nothing}
+use Rattle.ir_trees.specs.declared.ir.heads.ConstHead.TheVariants as C
+use Rattle.ir_trees.specs.declared.ir.heads.Head.{Head}
+use Rattle.ir_trees.specs.declared.ir.heads.Head.TheVariants as H
+use Rattle.ir_trees.specs.Instantiation.Folding.{argument, lacks_argument, put, shift_tree, substituted}
+use Rattle.ir_trees.specs.Instantiation.Folds.{node}
+use Rattle.ir_trees.specs.Syntax.Binders.{escapes}
+use Rattle.ir_trees.specs.Syntax.Trees.{Kind, Forest, none, tree, Tree, binders_of, count, holds, is_alias, is_param, is_type, kind_of}
+use Rattle.ir_trees.specs.Unification.Substitutions.{alone, is_constant_kind, is_made}
+use Rattle.ir_trees.proofs.Instantiation.Folding.{begin, fold-nothing, substituted-nothing}
 use Rattle.candidate_eval.specs.declared.eval.variable.VariableKind.{VariableKind}
 use Rattle.candidate_eval.specs.declared.eval.variable.VariableKind.TheVariants.{Term, Region}
 use Rattle.candidate_eval.specs.Judges.States.{State, fresh_variables, variable, variable_kind, with_fresh}

@@ -1,26 +1,26 @@
 -- Clauses that are known not to hold, by earlier evaluators and by the declared impls.
 use Rattle.std.proofs.Common.{◌≡◌, ◌<◌, ◌∷◌, [], ℕ, Bool, true, false, List, Option, Some, None, length, map, slice_get, slice_index_or, refl, sym, ap, subst, ◌∙◌}
 use Rattle.std.specs.Prelude.{IfSome}
-use Rattle.candidate_ir.specs.declared.decl.contents.ImplId.{ImplId}
-use Rattle.candidate_ir.specs.declared.ir.kinds.Args.{Args}
-use Rattle.candidate_ir.specs.declared.ir.kinds.Clause.{Clause}
-use Rattle.candidate_ir.specs.declared.ir.kinds.GenericArg.{GenericArg}
-use Rattle.candidate_ir.specs.declared.ir.kinds.ParamEnv.{ParamEnv}
-use Rattle.candidate_ir.specs.declared.ir.kinds.TraitPredicate.{TraitPredicate}
-use Rattle.candidate_ir.specs.declared.ir.kinds.TraitRef.{TraitRef}
-use Rattle.candidate_ir.specs.Declarations.Context.{Context, Grows}
-use Rattle.candidate_ir.specs.Declarations.Contents.{Impl}
-use Rattle.candidate_ir.specs.Declarations.Declaring.{impl_at}
-use Rattle.candidate_ir.specs.Hierarchy.Elaboration.{IsElaboration}
-use Rattle.candidate_ir.specs.Instantiation.Folding.{substituted, substituted_tree}
-use Rattle.candidate_ir.specs.Instantiation.Folds.{IsArg, arg_tree}
-use Rattle.candidate_ir.specs.Unification.Substitutions.{alone}
-use Rattle.candidate_ir.specs.Syntax.Trees.{Forest, none, Tree}
-use Rattle.candidate_ir.specs.Syntax.Words.{ClauseListFits, IsArgs, IsClause, IsParamEnv, args_forest, clause_tree, env_forest}
-use Rattle.candidate_ir.specs.Validity.WellFormed.{ImplIsGiven}
-use Rattle.candidate_ir.proofs.Growth.Kept.{args-kept, grows-trans}
-use Rattle.candidate_ir.proofs.Hierarchy.Implying.{arg-kept}
-use Rattle.candidate_ir.proofs.Instantiation.Joining.{clause-kept}
+use Rattle.ir_trees.specs.declared.decl.contents.ImplId.{ImplId}
+use Rattle.ir_trees.specs.declared.ir.kinds.Args.{Args}
+use Rattle.ir_trees.specs.declared.ir.kinds.Clause.{Clause}
+use Rattle.ir_trees.specs.declared.ir.kinds.GenericArg.{GenericArg}
+use Rattle.ir_trees.specs.declared.ir.kinds.ParamEnv.{ParamEnv}
+use Rattle.ir_trees.specs.declared.ir.kinds.TraitPredicate.{TraitPredicate}
+use Rattle.ir_trees.specs.declared.ir.kinds.TraitRef.{TraitRef}
+use Rattle.ir_trees.specs.Declarations.Context.{Context, Grows}
+use Rattle.ir_trees.specs.Declarations.Contents.{Impl}
+use Rattle.ir_trees.specs.Declarations.Declaring.{impl_at}
+use Rattle.ir_trees.specs.Hierarchy.Elaboration.{IsElaboration}
+use Rattle.ir_trees.specs.Instantiation.Folding.{substituted, substituted_tree}
+use Rattle.ir_trees.specs.Instantiation.Folds.{IsArg, arg_tree}
+use Rattle.ir_trees.specs.Unification.Substitutions.{alone}
+use Rattle.ir_trees.specs.Syntax.Trees.{Forest, none, Tree}
+use Rattle.ir_trees.specs.Syntax.Words.{ClauseListFits, IsArgs, IsClause, IsParamEnv, args_forest, clause_tree, env_forest}
+use Rattle.ir_trees.specs.Validity.WellFormed.{ImplIsGiven}
+use Rattle.ir_trees.proofs.Growth.Kept.{args-kept, grows-trans}
+use Rattle.ir_folds.proofs.Hierarchy.Implying.{arg-kept}
+use Rattle.ir_folds.proofs.Instantiation.Joining.{clause-kept}
 use Rattle.candidate_eval.specs.Dynamic.ObjectRequirements.{arguments_of, trait_said}
 use Rattle.candidate_eval.specs.Interface.Evaluators.{accepted, arguments_accepted, with_rigid}
 use Rattle.candidate_eval.specs.Judges.States.{Env, Judge, State, fresh_variables, resolved_tree}

@@ -2,23 +2,23 @@
 use Rattle.std.specs.Prelude.{All, IfErr, IfOk, IfSome, OnOk}
 use Rattle.std.proofs.lemmas.List.Elements.{All-nil, All-push, All-same}
 use Rattle.std.proofs.Common.{◌≡◌, ◌⊎◌, ◌+◌, ◌<◌, ◌≤◌, arith, ◌++◌, ◌∷◌, [], add-one, inl, inr, true, false, Bool, ℕ, zero, suc, List, Option, None, Some, Result, Ok, Err, length, slice_get, refl, sym, ap, subst, ◌∙◌}
-use Rattle.candidate_ir.specs.declared.decl.contents.ImplId.{ImplId}
-use Rattle.candidate_ir.specs.declared.ir.kinds.Args.{Args}
-use Rattle.candidate_ir.specs.declared.ir.kinds.Clause.{Clause}
-use Rattle.candidate_ir.specs.declared.ir.kinds.ParamEnv.{ParamEnv}
-use Rattle.candidate_ir.specs.declared.ir.kinds.TraitId.{TraitId}
-use Rattle.candidate_ir.specs.declared.ir.kinds.TraitPredicate.{TraitPredicate}
-use Rattle.candidate_ir.specs.declared.ir.kinds.TraitRef.{TraitRef}
-use Rattle.candidate_ir.specs.declared.ir.stop.Stop.{Stop}
-use Rattle.candidate_ir.specs.Declarations.Context.{Context, Grows}
-use Rattle.candidate_ir.specs.Declarations.Contents.{Impl}
-use Rattle.candidate_ir.specs.Declarations.Declaring.{impl_at}
-use Rattle.candidate_ir.specs.Declarations.References.{reference_of}
-use Rattle.candidate_ir.specs.Instantiation.Folding.{substituted_tree}
-use Rattle.candidate_ir.specs.Syntax.Trees.{Forest, none, Tree}
-use Rattle.candidate_ir.specs.Syntax.Words.{ClauseListFits, IsArgs, IsClause, IsParamEnv, args_forest, clause_tree, env_forest}
-use Rattle.candidate_ir.proofs.Growth.Kept.{args-kept, grows-trans}
-use Rattle.candidate_ir.proofs.Instantiation.Joining.{clause-kept}
+use Rattle.ir_trees.specs.declared.decl.contents.ImplId.{ImplId}
+use Rattle.ir_trees.specs.declared.ir.kinds.Args.{Args}
+use Rattle.ir_trees.specs.declared.ir.kinds.Clause.{Clause}
+use Rattle.ir_trees.specs.declared.ir.kinds.ParamEnv.{ParamEnv}
+use Rattle.ir_trees.specs.declared.ir.kinds.TraitId.{TraitId}
+use Rattle.ir_trees.specs.declared.ir.kinds.TraitPredicate.{TraitPredicate}
+use Rattle.ir_trees.specs.declared.ir.kinds.TraitRef.{TraitRef}
+use Rattle.ir_trees.specs.declared.ir.stop.Stop.{Stop}
+use Rattle.ir_trees.specs.Declarations.Context.{Context, Grows}
+use Rattle.ir_trees.specs.Declarations.Contents.{Impl}
+use Rattle.ir_trees.specs.Declarations.Declaring.{impl_at}
+use Rattle.ir_trees.specs.Declarations.References.{reference_of}
+use Rattle.ir_trees.specs.Instantiation.Folding.{substituted_tree}
+use Rattle.ir_trees.specs.Syntax.Trees.{Forest, none, Tree}
+use Rattle.ir_trees.specs.Syntax.Words.{ClauseListFits, IsArgs, IsClause, IsParamEnv, args_forest, clause_tree, env_forest}
+use Rattle.ir_trees.proofs.Growth.Kept.{args-kept, grows-trans}
+use Rattle.ir_folds.proofs.Instantiation.Joining.{clause-kept}
 use Rattle.candidate_eval.specs.declared.coherence.Conflict.{Conflict}
 use Rattle.candidate_eval.specs.declared.coherence.OrphanStop.TheVariants as O
 use Rattle.candidate_eval.specs.Derivations.ImplRules.{TraitGoal}

@@ -6,16 +6,16 @@ use Rattle.std.proofs.lemmas.Bool.{and_parts, le-ltb, lt-ltb, ltb-false}
 use Rattle.std.proofs.lemmas.List.{length-append}
 use Rattle.std.proofs.lemmas.List.Elements.{All-cons, All-head, All-nil, All-tail}
 use Rattle.std.proofs.lemmas.Option.{slice_get-map, slice_get_within}
-use Rattle.candidate_ir.specs.declared.ir.heads.ConstHead.TheVariants as C
-use Rattle.candidate_ir.specs.declared.ir.heads.Head.{Head}
-use Rattle.candidate_ir.specs.declared.ir.heads.Head.TheVariants as H
-use Rattle.candidate_ir.specs.declared.ir.heads.Variable.{Variable}
-use Rattle.candidate_ir.specs.declared.ir.heads.VariableSort.{VariableSort}
-use Rattle.candidate_ir.specs.declared.ir.heads.VariableSort.TheVariants as V
-use Rattle.candidate_ir.specs.Instantiation.Folding.{leaf}
-use Rattle.candidate_ir.specs.Instantiation.Folds.{node}
-use Rattle.candidate_ir.specs.Syntax.Trees.{Kind, TypeKind, ConstantKind, RegionKind, Forest, none, Tree, erase, erased_head, holds, is_alias, is_type_kind, kind_of}
-use Rattle.candidate_ir.specs.Unification.Substitutions.{IsAllowed, IsAllowedBinding, Substitution, Universes, alone, apply, fits_sort, is_constant_kind, is_placeholder_above, is_variable}
+use Rattle.ir_trees.specs.declared.ir.heads.ConstHead.TheVariants as C
+use Rattle.ir_trees.specs.declared.ir.heads.Head.{Head}
+use Rattle.ir_trees.specs.declared.ir.heads.Head.TheVariants as H
+use Rattle.ir_trees.specs.declared.ir.heads.Variable.{Variable}
+use Rattle.ir_trees.specs.declared.ir.heads.VariableSort.{VariableSort}
+use Rattle.ir_trees.specs.declared.ir.heads.VariableSort.TheVariants as V
+use Rattle.ir_trees.specs.Instantiation.Folding.{leaf}
+use Rattle.ir_trees.specs.Instantiation.Folds.{node}
+use Rattle.ir_trees.specs.Syntax.Trees.{Kind, TypeKind, ConstantKind, RegionKind, Forest, none, Tree, erase, erased_head, holds, is_alias, is_type_kind, kind_of}
+use Rattle.ir_trees.specs.Unification.Substitutions.{IsAllowed, IsAllowedBinding, Substitution, Universes, alone, apply, fits_sort, is_constant_kind, is_placeholder_above, is_variable}
 use Rattle.candidate_eval.specs.declared.eval.variable.VariableKind.{VariableKind}
 use Rattle.candidate_eval.specs.declared.eval.variable.VariableKind.TheVariants.{Term, Region}
 use Rattle.candidate_eval.specs.Judges.Alike.{info}

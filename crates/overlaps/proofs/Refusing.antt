@@ -1,15 +1,15 @@
 -- Refusals of goals, of clauses and of one among several, said of earlier evaluators.
 use Rattle.std.proofs.Common.{◌≡◌, ℕ, zero, suc, List, [], ◌∷◌, Some, Result, Ok, Err, IfOk, ◌<◌, arith, length, slice_get, slice_index_or, refl, sym, ap, subst, ◌∙◌}
-use Rattle.candidate_ir.specs.declared.ir.kinds.Args.{Args}
-use Rattle.candidate_ir.specs.declared.ir.kinds.Clause.{Clause}
-use Rattle.candidate_ir.specs.declared.ir.kinds.ParamEnv.{ParamEnv}
-use Rattle.candidate_ir.specs.declared.ir.kinds.TraitPredicate.{TraitPredicate}
-use Rattle.candidate_ir.specs.Declarations.Context.{Context, Grows}
-use Rattle.candidate_ir.specs.Instantiation.Folding.{substituted_tree}
-use Rattle.candidate_ir.specs.Syntax.Trees.{none, Tree}
-use Rattle.candidate_ir.specs.Syntax.Words.{ClauseListFits, IsArgs, IsClause, IsParamEnv, args_forest, clause_tree, env_forest}
-use Rattle.candidate_ir.proofs.Growth.Kept.{args-kept, grows-trans}
-use Rattle.candidate_ir.proofs.Instantiation.Joining.{clause-kept}
+use Rattle.ir_trees.specs.declared.ir.kinds.Args.{Args}
+use Rattle.ir_trees.specs.declared.ir.kinds.Clause.{Clause}
+use Rattle.ir_trees.specs.declared.ir.kinds.ParamEnv.{ParamEnv}
+use Rattle.ir_trees.specs.declared.ir.kinds.TraitPredicate.{TraitPredicate}
+use Rattle.ir_trees.specs.Declarations.Context.{Context, Grows}
+use Rattle.ir_trees.specs.Instantiation.Folding.{substituted_tree}
+use Rattle.ir_trees.specs.Syntax.Trees.{none, Tree}
+use Rattle.ir_trees.specs.Syntax.Words.{ClauseListFits, IsArgs, IsClause, IsParamEnv, args_forest, clause_tree, env_forest}
+use Rattle.ir_trees.proofs.Growth.Kept.{args-kept, grows-trans}
+use Rattle.ir_folds.proofs.Instantiation.Joining.{clause-kept}
 use Rattle.candidate_eval.specs.Derivations.ImplRules.{TraitGoal}
 use Rattle.candidate_eval.specs.Dynamic.ObjectRequirements.{arguments_of, trait_said}
 use Rattle.candidate_eval.specs.Judges.States.{Env, State, resolved_tree}

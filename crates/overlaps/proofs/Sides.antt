@@ -1,6 +1,6 @@
 -- Sides of an equation whose aliases may be read as any types.
 use Rattle.std.specs.Prelude.{◌≡◌, ℕ, true, false, Some, None}
-use Rattle.candidate_ir.specs.Syntax.Trees.{Forest, Kind}
+use Rattle.ir_trees.specs.Syntax.Trees.{Forest, Kind}
 use Rattle.candidate_eval.specs.Judges.Alike.{info}
 use Rattle.candidate_eval.specs.Judges.Soundness.{AreLeaves, AreTreesOf, Live}
 use Rattle.candidate_eval.specs.Judges.States.{State, VariableInfo, variable_kind}

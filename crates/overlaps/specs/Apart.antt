@@ -1,14 +1,14 @@
 -- When no reference is an instance of two impls.
 use Rattle.std.specs.Prelude.{◌≡◌, ℕ, false, Some, List, []}
-use Rattle.candidate_ir.specs.declared.decl.contents.ImplId.{ImplId}
-use Rattle.candidate_ir.specs.Declarations.Context.{Context}
-use Rattle.candidate_ir.specs.Declarations.Contents.{Impl}
-use Rattle.candidate_ir.specs.Declarations.Declaring.{impl_at}
-use Rattle.candidate_ir.specs.Declarations.Worlds.{kinds_of}
-use Rattle.candidate_ir.specs.Instantiation.Folding.{fold, substituted}
-use Rattle.candidate_ir.specs.Syntax.Binders.{escapes}
-use Rattle.candidate_ir.specs.Syntax.Trees.{Forest, Kind, erase, holds}
-use Rattle.candidate_ir.specs.Unification.Substitutions.{is_placeholder_above}
+use Rattle.ir_trees.specs.declared.decl.contents.ImplId.{ImplId}
+use Rattle.ir_trees.specs.Declarations.Context.{Context}
+use Rattle.ir_trees.specs.Declarations.Contents.{Impl}
+use Rattle.ir_trees.specs.Declarations.Declaring.{impl_at}
+use Rattle.ir_trees.specs.Declarations.Worlds.{kinds_of}
+use Rattle.ir_trees.specs.Instantiation.Folding.{fold, substituted}
+use Rattle.ir_trees.specs.Syntax.Binders.{escapes}
+use Rattle.ir_trees.specs.Syntax.Trees.{Forest, Kind, erase, holds}
+use Rattle.ir_trees.specs.Unification.Substitutions.{is_placeholder_above}
 use Rattle.candidate_eval.specs.Interface.Evaluators.{with_rigid}
 use Rattle.candidate_eval.specs.Judges.States.{State, with_fresh_variables, with_pending}
 use Rattle.candidate_assembly.specs.Answers.KnownImpls.{header_of, kinds_of_impl}

@@ -1,6 +1,6 @@
 -- What each answer says of two impls: where their headers are equal, where they are open, and as they are declared.
 use Rattle.std.specs.Prelude.{◌≡◌, Some}
-use Rattle.candidate_ir.specs.declared.decl.contents.ImplId.{ImplId}
+use Rattle.ir_trees.specs.declared.decl.contents.ImplId.{ImplId}
 use Rattle.candidate_eval.specs.Judges.States.{State}
 use Rattle.candidate_rounds.specs.Evaluators.Known.{Evaluator, listing, state}
 use Rattle.overlaps.specs.Allowed.{allowance_of_ordered}

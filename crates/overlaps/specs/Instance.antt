@@ -1,11 +1,11 @@
 -- What is an instance of the headers of two impls.
 use Rattle.std.specs.Prelude.{◌≡◌, Bool, ◌||◌, true, false, Option, Some, List, []}
-use Rattle.candidate_ir.specs.declared.ir.kinds.TraitId.{TraitId}
-use Rattle.candidate_ir.specs.declared.ir.kinds.TraitRef.{TraitRef}
-use Rattle.candidate_ir.specs.Declarations.Context.{Context}
-use Rattle.candidate_ir.specs.Declarations.Contents.{Impl}
-use Rattle.candidate_ir.specs.Syntax.Trees.{Forest, none, Tree, erase, holds, is_alias}
-use Rattle.candidate_ir.specs.Syntax.Words.{IsArgs, args_forest}
+use Rattle.ir_trees.specs.declared.ir.kinds.TraitId.{TraitId}
+use Rattle.ir_trees.specs.declared.ir.kinds.TraitRef.{TraitRef}
+use Rattle.ir_trees.specs.Declarations.Context.{Context}
+use Rattle.ir_trees.specs.Declarations.Contents.{Impl}
+use Rattle.ir_trees.specs.Syntax.Trees.{Forest, none, Tree, erase, holds, is_alias}
+use Rattle.ir_trees.specs.Syntax.Words.{IsArgs, args_forest}
 use Rattle.candidate_eval.specs.Interface.Evaluators.{accepted}
 use Rattle.candidate_eval.specs.Judges.States.{Judge, State, resolved}
 use Rattle.candidate_assembly.specs.Answers.KnownImpls.{header_at}

@@ -1,14 +1,14 @@
 -- What is read of impls, with fresh variables or placeholders in the place of their parameters.
 use Rattle.std.specs.Prelude.{◌≡◌, Some, List}
-use Rattle.candidate_ir.specs.declared.decl.contents.ImplId.{ImplId}
-use Rattle.candidate_ir.specs.Declarations.Context.{Context}
-use Rattle.candidate_ir.specs.Declarations.Contents.{Impl}
-use Rattle.candidate_ir.specs.Declarations.Declaring.{impl_at}
-use Rattle.candidate_ir.specs.Instantiation.Folding.{substituted}
-use Rattle.candidate_ir.specs.Instantiation.Owned.{ClausesAreOwned}
-use Rattle.candidate_ir.specs.Syntax.Trees.{Forest, Kind}
-use Rattle.candidate_ir.specs.Syntax.Words.{IsArgs, args_forest}
-use Rattle.candidate_ir.specs.Validity.WellFormed.{ImplIsGiven}
+use Rattle.ir_trees.specs.declared.decl.contents.ImplId.{ImplId}
+use Rattle.ir_trees.specs.Declarations.Context.{Context}
+use Rattle.ir_trees.specs.Declarations.Contents.{Impl}
+use Rattle.ir_trees.specs.Declarations.Declaring.{impl_at}
+use Rattle.ir_trees.specs.Instantiation.Folding.{substituted}
+use Rattle.ir_trees.specs.Instantiation.Owned.{ClausesAreOwned}
+use Rattle.ir_trees.specs.Syntax.Trees.{Forest, Kind}
+use Rattle.ir_trees.specs.Syntax.Words.{IsArgs, args_forest}
+use Rattle.ir_trees.specs.Validity.WellFormed.{ImplIsGiven}
 use Rattle.candidate_eval.specs.Interface.Evaluators.{rigid}
 use Rattle.candidate_eval.specs.Judges.States.{State, fresh_variables}
 use Rattle.candidate_assembly.specs.Answers.KnownImpls.{header_of, kinds_of_impl}

@@ -1,6 +1,6 @@
 -- Two impls in the order of their numbers.
 use Rattle.std.specs.Prelude.{nat_lt, if◌then◌else◌}
-use Rattle.candidate_ir.specs.declared.decl.contents.ImplId.{ImplId}
+use Rattle.ir_trees.specs.declared.decl.contents.ImplId.{ImplId}
 
 -- the two, the one of the lower number first: the same pair whichever is given first
 abbrev pub in_order : ImplId → ImplId → ImplId × ImplId

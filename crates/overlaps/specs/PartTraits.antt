@@ -1,16 +1,16 @@
 -- Traits of which a goal may rest on an impl of an auto trait: those that lead to one, or to unsizing.
 use Rattle.std.specs.Prelude.{◌≡◌, ◌⊎◌, ℕ, false, true, None, Some, List, [], slice_get, slice_index_or}
 use Rattle.std.specs.List.{Contains}
-use Rattle.candidate_ir.specs.declared.decl.contents.ImplId.{ImplId}
-use Rattle.candidate_ir.specs.declared.decl.contents.LangItem.TheVariants as item
-use Rattle.candidate_ir.specs.declared.decl.definition.TraitFlags.{TraitFlags}
-use Rattle.candidate_ir.specs.declared.ir.kinds.Clause.{Clause}
-use Rattle.candidate_ir.specs.declared.ir.kinds.PredicatePolarity.{PredicatePolarity}
-use Rattle.candidate_ir.specs.declared.ir.kinds.TraitId.{TraitId}
-use Rattle.candidate_ir.specs.Declarations.Context.{Context}
-use Rattle.candidate_ir.specs.Declarations.Declaring.{impl_at, item_number, trait_at}
-use Rattle.candidate_ir.specs.Declarations.Lookups.{definition, maybe, trait_flags}
-use Rattle.candidate_ir.specs.Syntax.Words.{clause_tree}
+use Rattle.ir_trees.specs.declared.decl.contents.ImplId.{ImplId}
+use Rattle.ir_trees.specs.declared.decl.contents.LangItem.TheVariants as item
+use Rattle.ir_trees.specs.declared.decl.definition.TraitFlags.{TraitFlags}
+use Rattle.ir_trees.specs.declared.ir.kinds.Clause.{Clause}
+use Rattle.ir_trees.specs.declared.ir.kinds.PredicatePolarity.{PredicatePolarity}
+use Rattle.ir_trees.specs.declared.ir.kinds.TraitId.{TraitId}
+use Rattle.ir_trees.specs.Declarations.Context.{Context}
+use Rattle.ir_trees.specs.Declarations.Declaring.{impl_at, item_number, trait_at}
+use Rattle.ir_trees.specs.Declarations.Lookups.{definition, maybe, trait_flags}
+use Rattle.ir_trees.specs.Syntax.Words.{clause_tree}
 use Rattle.candidate_eval.specs.Dynamic.ObjectRequirements.{trait_said}
 
 -- one of the clauses says something of the trait

@@ -1,11 +1,11 @@
 -- What types aliases may be.
 use Rattle.std.specs.Prelude.{◌≡◌, ℕ, false, true, Option, Some, None, if◌then◌else◌}
-use Rattle.candidate_ir.specs.declared.ir.heads.Head.{Head}
-use Rattle.candidate_ir.specs.Instantiation.Folding.{fold}
-use Rattle.candidate_ir.specs.Instantiation.Folds.{node}
-use Rattle.candidate_ir.specs.Syntax.Binders.{escapes}
-use Rattle.candidate_ir.specs.Syntax.Trees.{Forest, Tree, erase, holds, kind_of}
-use Rattle.candidate_ir.specs.Unification.Substitutions.{alone, is_placeholder_above}
+use Rattle.ir_trees.specs.declared.ir.heads.Head.{Head}
+use Rattle.ir_trees.specs.Instantiation.Folding.{fold}
+use Rattle.ir_trees.specs.Instantiation.Folds.{node}
+use Rattle.ir_trees.specs.Syntax.Binders.{escapes}
+use Rattle.ir_trees.specs.Syntax.Trees.{Forest, Tree, erase, holds, kind_of}
+use Rattle.ir_trees.specs.Unification.Substitutions.{alone, is_placeholder_above}
 use Rattle.rounds_judge.specs.Aliases.OpenParts.{is_open_part}
 
 -- what each tree is read as

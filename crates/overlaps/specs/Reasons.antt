@@ -1,14 +1,14 @@
 -- Why it isn't known of two impls that both hold where their headers are equal: which where clauses are open there, each with a cause.
 use Rattle.std.specs.Prelude.{◌≡◌, ◌++◌, ◌∷◌, [], ℕ, zero, suc, true, false, Option, None, Some, List, length, slice_get, if◌then◌else◌}
-use Rattle.candidate_ir.specs.declared.decl.contents.ImplId.{ImplId}
-use Rattle.candidate_ir.specs.declared.ir.kinds.Clause.{Clause}
-use Rattle.candidate_ir.specs.declared.ir.kinds.ParamEnv.{ParamEnv}
-use Rattle.candidate_ir.specs.declared.ir.kinds.TraitId.{TraitId}
-use Rattle.candidate_ir.specs.Declarations.Context.{Context, Grows}
-use Rattle.candidate_ir.specs.Declarations.Contents.{Impl}
-use Rattle.candidate_ir.specs.Declarations.Worlds.{Reference}
-use Rattle.candidate_ir.specs.Syntax.Trees.{Forest, none, Tree, holds, is_alias}
-use Rattle.candidate_ir.specs.Syntax.Words.{IsClause, args_forest, clause_tree, env_forest}
+use Rattle.ir_trees.specs.declared.decl.contents.ImplId.{ImplId}
+use Rattle.ir_trees.specs.declared.ir.kinds.Clause.{Clause}
+use Rattle.ir_trees.specs.declared.ir.kinds.ParamEnv.{ParamEnv}
+use Rattle.ir_trees.specs.declared.ir.kinds.TraitId.{TraitId}
+use Rattle.ir_trees.specs.Declarations.Context.{Context, Grows}
+use Rattle.ir_trees.specs.Declarations.Contents.{Impl}
+use Rattle.ir_trees.specs.Declarations.Worlds.{Reference}
+use Rattle.ir_trees.specs.Syntax.Trees.{Forest, none, Tree, holds, is_alias}
+use Rattle.ir_trees.specs.Syntax.Words.{IsClause, args_forest, clause_tree, env_forest}
 use Rattle.candidate_eval.specs.declared.coherence.Conflict.{Conflict}
 use Rattle.candidate_eval.specs.declared.coherence.Conflict.TheVariants as K
 use Rattle.candidate_eval.specs.declared.eval.mode.TypingMode.TheVariants.{Coherence}

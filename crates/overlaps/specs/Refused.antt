@@ -1,14 +1,14 @@
 -- What it says that a where clause of one of two impls is refused, where their headers are equal.
 use Rattle.std.specs.Prelude.{◌≡◌, ℕ, true, false, Option, Some, None, List, [], slice_get}
-use Rattle.candidate_ir.specs.declared.decl.contents.ImplId.{ImplId}
-use Rattle.candidate_ir.specs.declared.ir.kinds.Clause.{Clause}
-use Rattle.candidate_ir.specs.declared.ir.kinds.TraitPredicate.{TraitPredicate}
-use Rattle.candidate_ir.specs.Declarations.Context.{Context, Grows}
-use Rattle.candidate_ir.specs.Declarations.Contents.{Impl}
-use Rattle.candidate_ir.specs.Instantiation.Folding.{substituted_tree}
-use Rattle.candidate_ir.specs.Instantiation.Owned.{ClausesAreOwned}
-use Rattle.candidate_ir.specs.Syntax.Trees.{Forest, none, Tree, holds, is_alias}
-use Rattle.candidate_ir.specs.Syntax.Words.{IsArgs, args_forest, clause_tree}
+use Rattle.ir_trees.specs.declared.decl.contents.ImplId.{ImplId}
+use Rattle.ir_trees.specs.declared.ir.kinds.Clause.{Clause}
+use Rattle.ir_trees.specs.declared.ir.kinds.TraitPredicate.{TraitPredicate}
+use Rattle.ir_trees.specs.Declarations.Context.{Context, Grows}
+use Rattle.ir_trees.specs.Declarations.Contents.{Impl}
+use Rattle.ir_trees.specs.Instantiation.Folding.{substituted_tree}
+use Rattle.ir_trees.specs.Instantiation.Owned.{ClausesAreOwned}
+use Rattle.ir_trees.specs.Syntax.Trees.{Forest, none, Tree, holds, is_alias}
+use Rattle.ir_trees.specs.Syntax.Words.{IsArgs, args_forest, clause_tree}
 use Rattle.candidate_eval.specs.Derivations.ImplRules.{TraitGoal}
 use Rattle.candidate_eval.specs.Dynamic.ObjectRequirements.{arguments_of, trait_said}
 use Rattle.candidate_eval.specs.Interface.Evaluators.{accepted}

@@ -1,13 +1,13 @@
 -- When an impl specialises another one.
 use Rattle.std.specs.Prelude.{◌≡◌, List, Some, map}
-use Rattle.candidate_ir.specs.declared.decl.contents.ImplId.{ImplId}
-use Rattle.candidate_ir.specs.declared.ir.kinds.Clause.{Clause}
-use Rattle.candidate_ir.specs.Declarations.Context.{Context, Grows}
-use Rattle.candidate_ir.specs.Declarations.Contents.{Impl}
-use Rattle.candidate_ir.specs.Hierarchy.Elaboration.{IsElaboration}
-use Rattle.candidate_ir.specs.Instantiation.Folding.{substituted, substituted_tree}
-use Rattle.candidate_ir.specs.Syntax.Trees.{Forest, Tree}
-use Rattle.candidate_ir.specs.Syntax.Words.{args_forest, clause_tree}
+use Rattle.ir_trees.specs.declared.decl.contents.ImplId.{ImplId}
+use Rattle.ir_trees.specs.declared.ir.kinds.Clause.{Clause}
+use Rattle.ir_trees.specs.Declarations.Context.{Context, Grows}
+use Rattle.ir_trees.specs.Declarations.Contents.{Impl}
+use Rattle.ir_trees.specs.Hierarchy.Elaboration.{IsElaboration}
+use Rattle.ir_trees.specs.Instantiation.Folding.{substituted, substituted_tree}
+use Rattle.ir_trees.specs.Syntax.Trees.{Forest, Tree}
+use Rattle.ir_trees.specs.Syntax.Words.{args_forest, clause_tree}
 use Rattle.candidate_eval.specs.Interface.Evaluators.{accepted, rigid}
 use Rattle.candidate_eval.specs.Judges.States.{Env, Judge, State}
 use Rattle.candidate_assembly.specs.Answers.KnownImpls.{header_at, header_of, kinds_of_impl}

@@ -1,11 +1,11 @@
 -- Why it stops to ask whether two impls overlap.
 use Rattle.std.specs.Prelude.{◌≡◌, ℕ, false, List, [], Err}
-use Rattle.candidate_ir.specs.declared.ir.kinds.AliasTy.{AliasTy}
-use Rattle.candidate_ir.specs.declared.ir.kinds.ParamEnv.{ParamEnv}
-use Rattle.candidate_ir.specs.declared.ir.stop.Stop.{Stop}
-use Rattle.candidate_ir.specs.Declarations.Context.{Grows}
-use Rattle.candidate_ir.specs.Syntax.Nodes.{Extends}
-use Rattle.candidate_ir.specs.Syntax.Trees.{Forest, Tree}
+use Rattle.ir_trees.specs.declared.ir.kinds.AliasTy.{AliasTy}
+use Rattle.ir_trees.specs.declared.ir.kinds.ParamEnv.{ParamEnv}
+use Rattle.ir_trees.specs.declared.ir.stop.Stop.{Stop}
+use Rattle.ir_trees.specs.Declarations.Context.{Grows}
+use Rattle.ir_trees.specs.Syntax.Nodes.{Extends}
+use Rattle.ir_trees.specs.Syntax.Trees.{Forest, Tree}
 use Rattle.candidate_eval.specs.Derivations.ImplRules.{TraitGoal}
 use Rattle.candidate_eval.specs.Outcomes.Responses.{Response}
 use Rattle.candidate_eval.specs.Interface.Knowing.{is_evaluator_stop}

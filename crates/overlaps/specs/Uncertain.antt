@@ -1,11 +1,11 @@
 -- Why it isn't known that two impls hold where their headers are equal.
 use Rattle.std.specs.Prelude.{◌≡◌, ◌⊎◌, ◌||◌, ℕ, true, false, None, Some, List, slice_get}
-use Rattle.candidate_ir.specs.declared.decl.contents.ImplId.{ImplId}
-use Rattle.candidate_ir.specs.declared.ir.kinds.Clause.{Clause}
-use Rattle.candidate_ir.specs.Declarations.Context.{Context, Grows}
-use Rattle.candidate_ir.specs.Declarations.Contents.{Impl}
-use Rattle.candidate_ir.specs.Syntax.Trees.{Forest, none, Tree, holds, is_alias}
-use Rattle.candidate_ir.specs.Syntax.Words.{args_forest}
+use Rattle.ir_trees.specs.declared.decl.contents.ImplId.{ImplId}
+use Rattle.ir_trees.specs.declared.ir.kinds.Clause.{Clause}
+use Rattle.ir_trees.specs.Declarations.Context.{Context, Grows}
+use Rattle.ir_trees.specs.Declarations.Contents.{Impl}
+use Rattle.ir_trees.specs.Syntax.Trees.{Forest, none, Tree, holds, is_alias}
+use Rattle.ir_trees.specs.Syntax.Words.{args_forest}
 use Rattle.candidate_eval.specs.Derivations.ImplRules.{TraitGoal}
 use Rattle.candidate_eval.specs.Dynamic.ObjectRequirements.{trait_said}
 use Rattle.candidate_eval.specs.Judges.States.{Env, State}

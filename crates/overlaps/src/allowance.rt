@@ -5,9 +5,9 @@ ghost use Rattle.std.specs.List.{list_any};
 ghost use Rattle.overlaps.specs.Allowed.{allowance_between, allowance_of, allowance_of_ordered, are_of_one_polarity, is_marker_trait, is_reservation};
 
 use crate::order::in_order;
-use candidate_ir::decl::Cx;
-use candidate_ir::decl::contents::{Impl, ImplId, ImplPolarity};
-use candidate_ir::ir::kinds::TraitId;
+use ir_context::decl::Cx;
+use ir_trees::decl::contents::{Impl, ImplId, ImplPolarity};
+use ir_trees::ir::kinds::TraitId;
 
 /// Why an overlap of two impls is no error.
 #[derive(Clone, Copy, Debug, PartialEq, Eq)]

@@ -2,11 +2,11 @@
 
 ghost use Rattle.std.specs.Prelude.{◌≡◌, true, false, None, IfErr, IfOk, IfSome};
 ghost use Rattle.std.specs.Option.{option_map};
-ghost use Rattle.candidate_ir.specs.Declarations.References.{ArgumentsFit};
-ghost use Rattle.candidate_ir.specs.Instantiation.Folding.{lacks_argument};
-ghost use Rattle.candidate_ir.specs.Instantiation.Owned.{ClausesAreOwned};
-ghost use Rattle.candidate_ir.specs.Syntax.Trees.{none, tree_holds};
-ghost use Rattle.candidate_ir.specs.Syntax.Words.{IsArgs, IsClause, IsParamEnv, args_forest, clause_tree, env_forest};
+ghost use Rattle.ir_trees.specs.Declarations.References.{ArgumentsFit};
+ghost use Rattle.ir_trees.specs.Instantiation.Folding.{lacks_argument};
+ghost use Rattle.ir_trees.specs.Instantiation.Owned.{ClausesAreOwned};
+ghost use Rattle.ir_trees.specs.Syntax.Trees.{none, tree_holds};
+ghost use Rattle.ir_trees.specs.Syntax.Words.{IsArgs, IsClause, IsParamEnv, args_forest, clause_tree, env_forest};
 ghost use Rattle.candidate_assembly.specs.Goals.TraitGoals.{trait_goal};
 ghost use Rattle.candidate_rounds.specs.Evaluators.Known.{state, table_of};
 ghost use Rattle.candidate_rounds.specs.Table.Goals.{IsVerdict, verdict_seen};
@@ -23,13 +23,13 @@ use crate::opening::{Opened, Pair};
 use candidate_eval::eval::clauses::{predicate_in, substitute};
 use candidate_eval::eval::context::EvalCtxt;
 use candidate_eval::eval::response::has_only_region_constraints;
-use candidate_ir::decl::Cx;
-use candidate_ir::decl::make::Make;
-use candidate_ir::ir::kinds::{Args, Clause, ClauseKind, ParamEnv, TraitPredicate};
-use candidate_ir::ir::stop::Stop;
-use candidate_ir::ir::trees::Trees;
 use candidate_rounds::rounds::Rounds;
 use candidate_rounds::rounds::goals::Verdict;
+use ir_context::decl::Cx;
+use ir_context::decl::make::Make;
+use ir_trees::ir::kinds::{Args, Clause, ClauseKind, ParamEnv, TraitPredicate};
+use ir_trees::ir::stop::Stop;
+use ir_trees::ir::trees::Trees;
 use std::alloc::Global;
 
 /// Whether the clause says what outlives what.

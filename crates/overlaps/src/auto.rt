@@ -2,18 +2,18 @@
 //! an impl bars each type with the head.
 
 ghost use Rattle.std.specs.Prelude.{◌≡◌, ◌<◌, false, true, IfErr, IfOk, length};
-ghost use Rattle.candidate_ir.specs.Instantiation.Folds.{IsArg};
-ghost use Rattle.candidate_ir.specs.Syntax.Words.{ClauseListFits, IsArgs, IsTy, args_forest};
+ghost use Rattle.ir_trees.specs.Instantiation.Folds.{IsArg};
+ghost use Rattle.ir_trees.specs.Syntax.Words.{ClauseListFits, IsArgs, IsTy, args_forest};
 ghost use Rattle.overlaps.specs.Asked.{HaveVariable};
 ghost use Rattle.overlaps.specs.PartTraits.{AddsOnly, IsAutoWithImpl, IsNext, IsSaid, IsUnsizing, MayRestOnPart, wheres_at};
 
 use candidate_eval::eval::clauses::{predicate_in, self_ty};
-use candidate_ir::decl::Cx;
-use candidate_ir::decl::contents::{ImplId, LangItem};
-use candidate_ir::ir::heads::Flag;
-use candidate_ir::ir::kinds::{Args, Clause, ConstKind, GenericArg, TraitId, TraitRef, Ty, TyKind};
-use candidate_ir::ir::stop::Stop;
-use candidate_ir::ir::trees::Trees;
+use ir_context::decl::Cx;
+use ir_trees::decl::contents::{ImplId, LangItem};
+use ir_trees::ir::heads::Flag;
+use ir_trees::ir::kinds::{Args, Clause, ConstKind, GenericArg, TraitId, TraitRef, Ty, TyKind};
+use ir_trees::ir::stop::Stop;
+use ir_trees::ir::trees::Trees;
 use std::alloc::Global;
 
 /// Whether the argument is a parameter, or a region.

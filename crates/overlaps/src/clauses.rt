@@ -1,11 +1,11 @@
 //! Where clauses that are refused.
 
 ghost use Rattle.std.specs.Prelude.{◌≡◌, ◌<◌, [], None, false, true, IfErr, IfOk, IfSome, OnOk};
-ghost use Rattle.candidate_ir.specs.Declarations.References.{ArgumentsFit};
-ghost use Rattle.candidate_ir.specs.Instantiation.Folding.{lacks_argument, substituted_tree};
-ghost use Rattle.candidate_ir.specs.Instantiation.Owned.{ClausesAreOwned};
-ghost use Rattle.candidate_ir.specs.Syntax.Trees.{none, tree_holds};
-ghost use Rattle.candidate_ir.specs.Syntax.Words.{IsArgs, IsClause, IsParamEnv, args_forest, clause_tree, env_forest};
+ghost use Rattle.ir_trees.specs.Declarations.References.{ArgumentsFit};
+ghost use Rattle.ir_trees.specs.Instantiation.Folding.{lacks_argument, substituted_tree};
+ghost use Rattle.ir_trees.specs.Instantiation.Owned.{ClausesAreOwned};
+ghost use Rattle.ir_trees.specs.Syntax.Trees.{none, tree_holds};
+ghost use Rattle.ir_trees.specs.Syntax.Words.{IsArgs, IsClause, IsParamEnv, args_forest, clause_tree, env_forest};
 ghost use Rattle.candidate_eval.specs.declared.eval.mode.TypingMode.TheVariants as mode;
 ghost use Rattle.candidate_assembly.specs.Answers.CoherentRefusals.{IsPlainGoal};
 ghost use Rattle.candidate_assembly.specs.Goals.KindShown.{IsGoal, trait_kind};
@@ -22,10 +22,10 @@ use crate::auto::refuses_instances;
 use crate::plain::{is_in_coherence, is_refused, is_resolved, is_without_aliases};
 use candidate_eval::eval::clauses::{predicate_in, substitute};
 use candidate_eval::eval::context::{EvalCtxt, ProbeKind};
-use candidate_ir::decl::make::Make;
-use candidate_ir::ir::kinds::{Args, Clause, ParamEnv, TraitPredicate};
-use candidate_ir::ir::stop::Stop;
 use candidate_rounds::rounds::Rounds;
+use ir_context::decl::make::Make;
+use ir_trees::ir::kinds::{Args, Clause, ParamEnv, TraitPredicate};
+use ir_trees::ir::stop::Stop;
 use std::alloc::Global;
 
 /// Whether the goal of a predicate stands at what is known and leaves nothing open, so that its refusal decides, whatever crates come that it

@@ -1,7 +1,7 @@
 //! What is an instance of the headers of two impls.
 
 ghost use Rattle.std.specs.Prelude.{◌≡◌, IfErr, IfOk};
-ghost use Rattle.candidate_ir.specs.Syntax.Words.{IsArgs, args_forest};
+ghost use Rattle.ir_trees.specs.Syntax.Words.{IsArgs, args_forest};
 ghost use Rattle.candidate_rounds.specs.Evaluators.Known.{state, table_of};
 ghost use Rattle.candidate_rounds.specs.Table.Running.{StaysBesideTable};
 ghost use Rattle.overlaps.specs.Instance.{IsReferenceAt};
@@ -9,9 +9,9 @@ ghost use Rattle.overlaps.specs.Stopping.{IsOverlapStop};
 
 use crate::opening::Opened;
 use candidate_eval::eval::context::EvalCtxt;
-use candidate_ir::ir::kinds::TraitRef;
-use candidate_ir::ir::stop::Stop;
 use candidate_rounds::rounds::Rounds;
+use ir_trees::ir::kinds::TraitRef;
+use ir_trees::ir::stop::Stop;
 use std::alloc::Global;
 use std::fmt;
 

@@ -1,11 +1,11 @@
 //! Impls that are kept apart since a where clause of one of them is known not to hold.
 
 ghost use Rattle.std.specs.Prelude.{◌≡◌, ◌≢◌, ◌<◌, None, Some, true, false, map, IfErr, IfOk, IfSome, OnOk};
-ghost use Rattle.candidate_ir.specs.Instantiation.Folding.{lacks_argument};
-ghost use Rattle.candidate_ir.specs.Instantiation.Folds.{IsArg};
-ghost use Rattle.candidate_ir.specs.Instantiation.Owned.{ClausesAreOwned};
-ghost use Rattle.candidate_ir.specs.Syntax.Trees.{none, tree_holds};
-ghost use Rattle.candidate_ir.specs.Syntax.Words.{ClauseListFits, IsArgs, IsClause, IsParamEnv, args_forest, clause_tree, env_forest};
+ghost use Rattle.ir_trees.specs.Instantiation.Folding.{lacks_argument};
+ghost use Rattle.ir_trees.specs.Instantiation.Folds.{IsArg};
+ghost use Rattle.ir_trees.specs.Instantiation.Owned.{ClausesAreOwned};
+ghost use Rattle.ir_trees.specs.Syntax.Trees.{none, tree_holds};
+ghost use Rattle.ir_trees.specs.Syntax.Words.{ClauseListFits, IsArgs, IsClause, IsParamEnv, args_forest, clause_tree, env_forest};
 ghost use Rattle.candidate_eval.specs.Interface.Evaluators.{arguments_accepted};
 ghost use Rattle.candidate_eval.specs.Interface.Shown.{Keeps, StopsSomehow, view};
 ghost use Rattle.candidate_rounds.specs.Evaluators.Interface.{fixed, judge_of};
@@ -26,16 +26,14 @@ use candidate_assembly::trait_goals::impls::recall_impl_given;
 use candidate_eval::eval::clauses::{predicate_in, substitute};
 use candidate_eval::eval::context::{EvalCtxt, ProbeKind};
 use candidate_eval::eval::refusal::NoSolutionOrStop;
-use candidate_ir::decl::Cx;
-use candidate_ir::decl::contents::ImplId;
-use candidate_ir::decl::elaborate::elaborate;
-use candidate_ir::decl::make::{Build, Make};
-use candidate_ir::ir::kinds::{
-    Args, Clause, GenericArg, ParamEnv, PredicatePolarity, TraitPredicate,
-};
-use candidate_ir::ir::stop::Stop;
-use candidate_ir::ir::trees::Trees;
 use candidate_rounds::rounds::Rounds;
+use ir_context::decl::Cx;
+use ir_context::decl::make::{Build, Make};
+use ir_folds::decl::elaborate::elaborate;
+use ir_trees::decl::contents::ImplId;
+use ir_trees::ir::kinds::{Args, Clause, GenericArg, ParamEnv, PredicatePolarity, TraitPredicate};
+use ir_trees::ir::stop::Stop;
+use ir_trees::ir::trees::Trees;
 use std::alloc::Global;
 
 /// What says the opposite of the predicate.

@@ -1,9 +1,9 @@
 //! Impls with fresh variables or placeholders in the place of their parameters.
 
 ghost use Rattle.std.specs.Prelude.{◌≡◌, None, IfErr, IfOk, MatchOption, OnOk};
-ghost use Rattle.candidate_ir.specs.Declarations.Declaring.{impl_at};
-ghost use Rattle.candidate_ir.specs.Declarations.Worlds.{kinds_of};
-ghost use Rattle.candidate_ir.specs.Syntax.Words.{IsArgs, args_forest};
+ghost use Rattle.ir_trees.specs.Declarations.Declaring.{impl_at};
+ghost use Rattle.ir_trees.specs.Declarations.Worlds.{kinds_of};
+ghost use Rattle.ir_trees.specs.Syntax.Words.{IsArgs, args_forest};
 ghost use Rattle.candidate_eval.specs.Interface.Evaluators.{rigid, with_rigid};
 ghost use Rattle.candidate_eval.specs.Interface.Shown.{Keeps, StopsSomehow};
 ghost use Rattle.candidate_eval.specs.Judges.States.{with_fresh_variables};
@@ -13,9 +13,9 @@ ghost use Rattle.overlaps.specs.Opening.{AreEntered, AreNotDeclared, AreOpened, 
 use candidate_assembly::trait_goals::impls::{declared_by, fresh_args_for_impl, recall_impl_given};
 use candidate_eval::eval::clauses::substitute;
 use candidate_eval::eval::context::EvalCtxt;
-use candidate_ir::decl::contents::ImplId;
-use candidate_ir::ir::kinds::{Args, Clause, TraitId};
-use candidate_ir::ir::stop::Stop;
+use ir_trees::decl::contents::ImplId;
+use ir_trees::ir::kinds::{Args, Clause, TraitId};
+use ir_trees::ir::stop::Stop;
 use std::alloc::Global;
 
 /// An impl with fresh variables or placeholders in the place of its parameters.

@@ -3,7 +3,7 @@
 ghost use Rattle.std.specs.Prelude.{◌≡◌};
 ghost use Rattle.overlaps.specs.Ordered.{in_order};
 
-use candidate_ir::decl::contents::ImplId;
+use ir_trees::decl::contents::ImplId;
 
 /// The two, the one of the lower number first; so they are the same whichever is given first.
 pub(crate) fn in_order(first: ImplId, second: ImplId) -> (ImplId, ImplId)

@@ -1,8 +1,8 @@
 //! Two impls of a trait overlap where a reference may be an instance of both.
 
 ghost use Rattle.std.specs.Prelude.{◌≡◌, ◌<◌, ◌||◌, ◌↔◌, [], None, Some, false, true, IfErr, IfOk, IfSome};
-ghost use Rattle.candidate_ir.specs.Syntax.Trees.{holds, is_alias, none};
-ghost use Rattle.candidate_ir.specs.Syntax.Words.{IsParamEnv, args_forest, env_forest};
+ghost use Rattle.ir_trees.specs.Syntax.Trees.{holds, is_alias, none};
+ghost use Rattle.ir_trees.specs.Syntax.Words.{IsParamEnv, args_forest, env_forest};
 ghost use Rattle.candidate_rounds.specs.Evaluators.Known.{listing, state, table_of};
 ghost use Rattle.candidate_rounds.specs.Table.Running.{StaysBesideTable};
 ghost use Rattle.rounds_judge.specs.Equations.Opening.{are_open};
@@ -24,14 +24,14 @@ use crate::opening::{Pair, open_both};
 use crate::order::in_order;
 use crate::plain::make_equal;
 use candidate_eval::eval::context::{EvalCtxt, ProbeKind};
-use candidate_ir::decl::Cx;
-use candidate_ir::decl::contents::ImplId;
-use candidate_ir::decl::make::{Build, Make};
-use candidate_ir::ir::heads::Flag;
-use candidate_ir::ir::kinds::ParamEnv;
-use candidate_ir::ir::stop::Stop;
-use candidate_ir::ir::trees::Trees;
 use candidate_rounds::rounds::Rounds;
+use ir_context::decl::Cx;
+use ir_context::decl::make::{Build, Make};
+use ir_trees::decl::contents::ImplId;
+use ir_trees::ir::heads::Flag;
+use ir_trees::ir::kinds::ParamEnv;
+use ir_trees::ir::stop::Stop;
+use ir_trees::ir::trees::Trees;
 use std::alloc::Global;
 
 /// A where clause of one of two impls.

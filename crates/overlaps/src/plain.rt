@@ -1,8 +1,8 @@
 //! What an overlap rests on: equations of headers, and goals that leave nothing open.
 
 ghost use Rattle.std.specs.Prelude.{◌≡◌, false, true, IfErr, IfOk};
-ghost use Rattle.candidate_ir.specs.Syntax.Trees.{holds, is_alias};
-ghost use Rattle.candidate_ir.specs.Syntax.Words.{IsArgs, IsParamEnv, args_forest};
+ghost use Rattle.ir_trees.specs.Syntax.Trees.{holds, is_alias};
+ghost use Rattle.ir_trees.specs.Syntax.Words.{IsArgs, IsParamEnv, args_forest};
 ghost use Rattle.candidate_eval.specs.declared.eval.mode.TypingMode.TheVariants as mode;
 ghost use Rattle.candidate_eval.specs.Interface.Shown.{Keeps, KeepsBut, StopsSomehow, view};
 ghost use Rattle.candidate_eval.specs.Judges.States.{resolved};
@@ -18,11 +18,11 @@ ghost use Rattle.overlaps.specs.Stopping.{IsGoalStop};
 use candidate_assembly::trait_goals::compute::compute_trait_goal;
 use candidate_eval::eval::context::EvalCtxt;
 use candidate_eval::eval::refusal::NoSolutionOrStop;
-use candidate_ir::decl::make::Make;
-use candidate_ir::ir::heads::Flag;
-use candidate_ir::ir::kinds::{Args, ParamEnv, TraitPredicate};
-use candidate_ir::ir::stop::Stop;
-use candidate_ir::ir::trees::Trees;
+use ir_context::decl::make::Make;
+use ir_trees::ir::heads::Flag;
+use ir_trees::ir::kinds::{Args, ParamEnv, TraitPredicate};
+use ir_trees::ir::stop::Stop;
+use ir_trees::ir::trees::Trees;
 use std::alloc::Global;
 
 /// Whether two rows of arguments can be made equal; they are then.

@@ -1,9 +1,9 @@
 //! Why it isn't known of two impls that both hold where their headers are equal: the where clauses that are open there, each with a cause.
 
 ghost use Rattle.std.specs.Prelude.{◌≡◌, ◌<◌, [], All, None, false, true, length, IfErr, IfOk, IfSome, OnOk};
-ghost use Rattle.candidate_ir.specs.Declarations.References.{ArgumentsFit, reference_of};
-ghost use Rattle.candidate_ir.specs.Syntax.Trees.{holds, is_alias, none};
-ghost use Rattle.candidate_ir.specs.Syntax.Words.{IsArgs, IsClause, IsParamEnv, args_forest, clause_tree, env_forest};
+ghost use Rattle.ir_trees.specs.Declarations.References.{ArgumentsFit, reference_of};
+ghost use Rattle.ir_trees.specs.Syntax.Trees.{holds, is_alias, none};
+ghost use Rattle.ir_trees.specs.Syntax.Words.{IsArgs, IsClause, IsParamEnv, args_forest, clause_tree, env_forest};
 ghost use Rattle.candidate_eval.specs.Interface.Knowing.{is_evaluator_stop};
 ghost use Rattle.candidate_eval.specs.Knowability.Answers.{knowledge_of};
 ghost use Rattle.candidate_eval.specs.Knowability.Normalizer.{IsTold};
@@ -33,15 +33,15 @@ use candidate_eval::eval::clauses::predicate_in;
 use candidate_eval::eval::context::{EvalCtxt, ProbeKind};
 use candidate_eval::eval::knowing::is_knowable;
 use candidate_eval::eval::response::{CanonicalResponse, has_only_region_constraints};
-use candidate_ir::decl::Cx;
-use candidate_ir::decl::contents::ImplId;
-use candidate_ir::decl::make::{Build, Make};
-use candidate_ir::ir::heads::Flag;
-use candidate_ir::ir::kinds::{Args, Clause, ParamEnv, TraitId, TraitPredicate, TraitRef};
-use candidate_ir::ir::stop::Stop;
-use candidate_ir::ir::trees::Trees;
 use candidate_rounds::rounds::Rounds;
 use candidate_rounds::rounds::goals::Verdict;
+use ir_context::decl::Cx;
+use ir_context::decl::make::{Build, Make};
+use ir_trees::decl::contents::ImplId;
+use ir_trees::ir::heads::Flag;
+use ir_trees::ir::kinds::{Args, Clause, ParamEnv, TraitId, TraitPredicate, TraitRef};
+use ir_trees::ir::stop::Stop;
+use ir_trees::ir::trees::Trees;
 use std::alloc::Global;
 use std::fmt;
 

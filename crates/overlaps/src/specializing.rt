@@ -1,11 +1,11 @@
 //! Whether an impl specialises another one.
 
 ghost use Rattle.std.specs.Prelude.{◌≡◌, ◌<◌, ◌++◌, [], None, Some, false, true, map, IfErr, IfOk, OnOk};
-ghost use Rattle.candidate_ir.specs.Declarations.References.{ArgumentsFit};
-ghost use Rattle.candidate_ir.specs.Instantiation.Folding.{lacks_argument};
-ghost use Rattle.candidate_ir.specs.Instantiation.Owned.{ClausesAreOwned};
-ghost use Rattle.candidate_ir.specs.Syntax.Trees.{tree_holds};
-ghost use Rattle.candidate_ir.specs.Syntax.Words.{ClauseListFits, IsArgs, IsClause, IsParamEnv, args_forest, clause_tree, env_forest};
+ghost use Rattle.ir_trees.specs.Declarations.References.{ArgumentsFit};
+ghost use Rattle.ir_trees.specs.Instantiation.Folding.{lacks_argument};
+ghost use Rattle.ir_trees.specs.Instantiation.Owned.{ClausesAreOwned};
+ghost use Rattle.ir_trees.specs.Syntax.Trees.{tree_holds};
+ghost use Rattle.ir_trees.specs.Syntax.Words.{ClauseListFits, IsArgs, IsClause, IsParamEnv, args_forest, clause_tree, env_forest};
 ghost use Rattle.candidate_eval.specs.Interface.Shown.{Keeps, StopsSomehow};
 ghost use Rattle.candidate_rounds.specs.Evaluators.Known.{state, table_of};
 ghost use Rattle.candidate_rounds.specs.Table.Running.{StaysBesideTable};
@@ -20,13 +20,13 @@ use crate::overlap::have_aliases;
 use crate::plain::make_equal;
 use candidate_eval::eval::clauses::{predicate_in, substitute};
 use candidate_eval::eval::context::{EvalCtxt, ProbeKind};
-use candidate_ir::decl::Cx;
-use candidate_ir::decl::contents::{Impl, ImplId, ImplPolarity};
-use candidate_ir::decl::elaborate::elaborate;
-use candidate_ir::decl::make::{Build, Make};
-use candidate_ir::ir::kinds::{Args, Clause, ParamEnv, TraitPredicate};
-use candidate_ir::ir::stop::Stop;
 use candidate_rounds::rounds::Rounds;
+use ir_context::decl::Cx;
+use ir_context::decl::make::{Build, Make};
+use ir_folds::decl::elaborate::elaborate;
+use ir_trees::decl::contents::{Impl, ImplId, ImplPolarity};
+use ir_trees::ir::kinds::{Args, Clause, ParamEnv, TraitPredicate};
+use ir_trees::ir::stop::Stop;
 use std::alloc::Global;
 
 /// Whether an impl specialises another one.

@@ -1,14 +1,14 @@
 //! Where clauses of two impls that can't hold together: what one of them gives is known to the others, and what projections in them are.
 
 ghost use Rattle.std.specs.Prelude.{◌≡◌, ◌<◌, ◌++◌, ◌∷◌, [], length, None, Some, true, false, IfErr, IfOk, IfSome, OnOk};
-ghost use Rattle.candidate_ir.specs.declared.ir.kinds.AliasKind.TheVariants as AK;
-ghost use Rattle.candidate_ir.specs.declared.ir.kinds.TyKind.TheVariants as K;
-ghost use Rattle.candidate_ir.specs.Declarations.Context.{world};
-ghost use Rattle.candidate_ir.specs.Declarations.References.{ArgumentsFit, Takes};
-ghost use Rattle.candidate_ir.specs.Syntax.Nodes.{tree_at};
-ghost use Rattle.candidate_ir.specs.Syntax.Trees.{none};
-ghost use Rattle.candidate_ir.specs.Syntax.Words.{IsArgs, IsClause, IsParamEnv, IsTy, KindFits, args_forest, clause_tree, env_forest, kind_tree, ty_tree};
-ghost use Rattle.candidate_ir.specs.Unification.Substitutions.{alone};
+ghost use Rattle.ir_trees.specs.declared.ir.kinds.AliasKind.TheVariants as AK;
+ghost use Rattle.ir_trees.specs.declared.ir.kinds.TyKind.TheVariants as K;
+ghost use Rattle.ir_trees.specs.Declarations.Context.{world};
+ghost use Rattle.ir_trees.specs.Declarations.References.{ArgumentsFit, Takes};
+ghost use Rattle.ir_trees.specs.Syntax.Nodes.{tree_at};
+ghost use Rattle.ir_trees.specs.Syntax.Trees.{none};
+ghost use Rattle.ir_trees.specs.Syntax.Words.{IsArgs, IsClause, IsParamEnv, IsTy, KindFits, args_forest, clause_tree, env_forest, kind_tree, ty_tree};
+ghost use Rattle.ir_trees.specs.Unification.Substitutions.{alone};
 ghost use Rattle.candidate_eval.specs.Dynamic.ObjectRequirements.{arguments_of, trait_said};
 ghost use Rattle.candidate_eval.specs.Interface.Evaluators.{pendings_of};
 ghost use Rattle.candidate_eval.specs.Interface.Shown.{Keeps};
@@ -35,19 +35,19 @@ use candidate_eval::eval::clauses::{predicate_in, substitute};
 use candidate_eval::eval::context::{EvalCtxt, ProbeKind};
 use candidate_eval::eval::refusal::NoSolutionOrStop;
 use candidate_eval::eval::response::CanonicalResponse;
-use candidate_ir::decl::Cx;
-use candidate_ir::decl::contents::ImplId;
-use candidate_ir::decl::make::{Build, Make};
-use candidate_ir::ir::heads::Flag;
-use candidate_ir::ir::kinds::{
-    AliasKind, AliasTy, Args, Clause, ClauseKind, GenericArg, Goal, GoalSource, ParamEnv, TraitId,
-    TraitPredicate, Ty, TyKind,
-};
-use candidate_ir::ir::stop::Stop;
-use candidate_ir::ir::trees::Trees;
 use candidate_rounds::rounds::Rounds;
 use candidate_rounds::rounds::goals::Verdict;
 use candidate_rounds::rounds::normalizing::trait_predicate;
+use ir_context::decl::Cx;
+use ir_context::decl::make::{Build, Make};
+use ir_trees::decl::contents::ImplId;
+use ir_trees::ir::heads::Flag;
+use ir_trees::ir::kinds::{
+    AliasKind, AliasTy, Args, Clause, ClauseKind, GenericArg, Goal, GoalSource, ParamEnv, TraitId,
+    TraitPredicate, Ty, TyKind,
+};
+use ir_trees::ir::stop::Stop;
+use ir_trees::ir::trees::Trees;
 use std::alloc::Global;
 
 /// What normalising a projection says of it.

@@ -1,19 +1,19 @@
 -- The rules of the language for associated types: what is judged of them, and that they are the same where a context has grown.
 use Rattle.std.proofs.Common.{◌≡◌, ◌∙◌, Bool, true, false, Option, Some, None, List, [], ◌∷◌, refl, sym, ap, if◌then◌else◌}
-use Rattle.candidate_ir.specs.declared.ir.kinds.GoalSource.TheVariants.{ImplWhereBound}
-use Rattle.candidate_ir.specs.declared.ir.kinds.ParamEnv.{ParamEnv}
-use Rattle.candidate_ir.specs.declared.ir.kinds.PredicatePolarity.TheVariants.{Positive}
-use Rattle.candidate_ir.specs.declared.ir.kinds.TraitId.{TraitId}
-use Rattle.candidate_ir.specs.declared.ir.unify.RightSide.TheVariants as R
-use Rattle.candidate_ir.specs.Declarations.Context.{Context, Grows}
-use Rattle.candidate_ir.specs.Declarations.Worlds.{Reference}
-use Rattle.candidate_ir.specs.Instantiation.Folding.{substituted}
-use Rattle.candidate_ir.specs.Instantiation.Opening.{opened_tree}
-use Rattle.candidate_ir.specs.Syntax.Trees.{Forest, Kind, Tree, holds, is_param, none, tree_holds}
-use Rattle.candidate_ir.specs.Syntax.Words.{env_forest}
-use Rattle.candidate_ir.specs.Unification.Substitutions.{alone}
-use Rattle.candidate_ir.specs.Unification.Unify.{may_unify}
-use Rattle.candidate_ir.proofs.Instantiation.Folding.{substituted-nothing}
+use Rattle.ir_trees.specs.declared.ir.kinds.GoalSource.TheVariants.{ImplWhereBound}
+use Rattle.ir_trees.specs.declared.ir.kinds.ParamEnv.{ParamEnv}
+use Rattle.ir_trees.specs.declared.ir.kinds.PredicatePolarity.TheVariants.{Positive}
+use Rattle.ir_trees.specs.declared.ir.kinds.TraitId.{TraitId}
+use Rattle.ir_trees.specs.declared.ir.unify.RightSide.TheVariants as R
+use Rattle.ir_trees.specs.Declarations.Context.{Context, Grows}
+use Rattle.ir_trees.specs.Declarations.Worlds.{Reference}
+use Rattle.ir_trees.specs.Instantiation.Folding.{substituted}
+use Rattle.ir_trees.specs.Instantiation.Opening.{opened_tree}
+use Rattle.ir_trees.specs.Syntax.Trees.{Forest, Kind, Tree, holds, is_param, none, tree_holds}
+use Rattle.ir_trees.specs.Syntax.Words.{env_forest}
+use Rattle.ir_trees.specs.Unification.Substitutions.{alone}
+use Rattle.ir_trees.specs.Unification.Unify.{may_unify}
+use Rattle.ir_trees.proofs.Instantiation.Folding.{substituted-nothing}
 use Rattle.candidate_eval.specs.declared.eval.certainty.Certainty.TheVariants.{Yes}
 use Rattle.candidate_eval.specs.Builtins.Callable.{Callable, CalledWith, Calls, Refused as NotCalled, Undetermined}
 use Rattle.candidate_eval.specs.Derivations.Characterization.{binder_kinds}

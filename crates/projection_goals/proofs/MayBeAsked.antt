@@ -3,15 +3,15 @@ use Rattle.std.proofs.Common.{◌≡◌, ◌∙◌, ℕ, Bool, true, false, refl
 use Rattle.std.specs.Prelude.{◌==◌, if◌then◌else◌, map, slice_get}
 use Rattle.std.specs.Option.{option_map}
 use Rattle.std.proofs.lemmas.Option.{slice_get-map}
-use Rattle.candidate_ir.specs.declared.ir.kinds.AliasKind.{AliasKind}
-use Rattle.candidate_ir.specs.declared.ir.kinds.ParamEnv.{ParamEnv}
-use Rattle.candidate_ir.specs.declared.ir.kinds.VarKind.{VarKind}
-use Rattle.candidate_ir.specs.declared.ir.kinds.VarKind.TheVariants as V
-use Rattle.candidate_ir.specs.Declarations.Context.{Context, definition_of, parameter_kind, world}
-use Rattle.candidate_ir.specs.Declarations.Declaration.{Declaration}
-use Rattle.candidate_ir.specs.Declarations.Worlds.{AssociatedTypeSort, DefinitionSort, Reference, TraitSort, alias_kinds, joined, kinds_of, parameters, parameters_of, sort_number}
-use Rattle.candidate_ir.specs.Syntax.Trees.{Kind, TypeKind}
-use Rattle.candidate_ir.specs.Syntax.Words.{IsArgs, IsParamEnv, IsTy, args_forest}
+use Rattle.ir_trees.specs.declared.ir.kinds.AliasKind.{AliasKind}
+use Rattle.ir_trees.specs.declared.ir.kinds.ParamEnv.{ParamEnv}
+use Rattle.ir_trees.specs.declared.ir.kinds.VarKind.{VarKind}
+use Rattle.ir_trees.specs.declared.ir.kinds.VarKind.TheVariants as V
+use Rattle.ir_trees.specs.Declarations.Context.{Context, definition_of, parameter_kind, world}
+use Rattle.ir_trees.specs.Declarations.Declaration.{Declaration}
+use Rattle.ir_trees.specs.Declarations.Worlds.{AssociatedTypeSort, DefinitionSort, Reference, TraitSort, alias_kinds, joined, kinds_of, parameters, parameters_of, sort_number}
+use Rattle.ir_trees.specs.Syntax.Trees.{Kind, TypeKind}
+use Rattle.ir_trees.specs.Syntax.Words.{IsArgs, IsParamEnv, IsTy, args_forest}
 use Rattle.candidate_assembly.specs.Goals.KindShown.{IsGoal}
 use Rattle.projection_goals.specs.declared.kind.NormalizesTo.{NormalizesTo}
 use Rattle.projection_goals.specs.MayBeAsked.{Fits, IsClosed}

@@ -2,7 +2,7 @@
 use Rattle.std.specs.Prelude.{◌≡◌, ⊤}
 use Rattle.std.specs.Borrow.{MutBor}
 use Rattle.std.specs.Fn.{Once}
-use Rattle.candidate_ir.specs.declared.ir.kinds.ParamEnv.{ParamEnv}
+use Rattle.ir_trees.specs.declared.ir.kinds.ParamEnv.{ParamEnv}
 use Rattle.candidate_eval.specs.Interface.Shown.{Shown}
 use Rattle.candidate_assembly.specs.Answers.Shown.{Answers, Asked, Responded}
 use Rattle.projection_goals.specs.declared.kind.NormalizesTo.{NormalizesTo}

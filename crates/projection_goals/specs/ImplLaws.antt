@@ -1,25 +1,25 @@
 -- The rule of an impl mentions no other variables than the goal, and stays where a context grows: the laws that kinds of goals have.
 use Rattle.std.proofs.Common.{◌≡◌, ◌∙◌, ℕ, zero, suc, arith, Bool, true, false, refl, ap, List, [], ◌∷◌, map, Option, Some, None}
 use Rattle.std.specs.Prelude.{All, IfSome, ◌&&◌, ◌==◌, find, option_map}
-use Rattle.candidate_ir.specs.declared.decl.contents.AssocValue.{AssocValue}
-use Rattle.candidate_ir.specs.declared.decl.contents.ImplId.{ImplId}
-use Rattle.candidate_ir.specs.declared.ir.kinds.AssocId.{AssocId}
-use Rattle.candidate_ir.specs.declared.ir.kinds.Clause.{Clause}
-use Rattle.candidate_ir.specs.declared.ir.kinds.Ty.{Ty}
-use Rattle.candidate_ir.specs.declared.ir.unify.RightSide.TheVariants as R
-use Rattle.candidate_ir.specs.Declarations.Context.{Context, Grows, parameter_kind}
-use Rattle.candidate_ir.specs.Declarations.Contents.{Impl}
-use Rattle.candidate_ir.specs.Declarations.Declaring.{impl_at}
-use Rattle.candidate_ir.specs.Declarations.Lookups.{maybe, value_of}
-use Rattle.candidate_ir.specs.Instantiation.Owned.{ImplIsOwned, is_unsolved}
-use Rattle.candidate_ir.specs.Syntax.Trees.{Forest, Tree, join, tree_holds}
-use Rattle.candidate_ir.specs.Syntax.Words.{IsTy, args_forest, clause_tree, ty_tree}
-use Rattle.candidate_ir.specs.Unification.Substitutions.{alone}
-use Rattle.candidate_ir.specs.Unification.Unify.{may_unify}
-use Rattle.candidate_ir.specs.Validity.WellFormed.{ImplIsGiven, IsWellFormedTable, TypesFit, types_of_values}
-use Rattle.candidate_ir.proofs.Growth.Kept.{args-kept, ty-kept}
-use Rattle.candidate_ir.proofs.Instantiation.Declared.{impl_owned}
-use Rattle.candidate_ir.proofs.Validity.Given.{impl_given}
+use Rattle.ir_trees.specs.declared.decl.contents.AssocValue.{AssocValue}
+use Rattle.ir_trees.specs.declared.decl.contents.ImplId.{ImplId}
+use Rattle.ir_trees.specs.declared.ir.kinds.AssocId.{AssocId}
+use Rattle.ir_trees.specs.declared.ir.kinds.Clause.{Clause}
+use Rattle.ir_trees.specs.declared.ir.kinds.Ty.{Ty}
+use Rattle.ir_trees.specs.declared.ir.unify.RightSide.TheVariants as R
+use Rattle.ir_trees.specs.Declarations.Context.{Context, Grows, parameter_kind}
+use Rattle.ir_trees.specs.Declarations.Contents.{Impl}
+use Rattle.ir_trees.specs.Declarations.Declaring.{impl_at}
+use Rattle.ir_trees.specs.Declarations.Lookups.{maybe, value_of}
+use Rattle.ir_trees.specs.Instantiation.Owned.{ImplIsOwned, is_unsolved}
+use Rattle.ir_trees.specs.Syntax.Trees.{Forest, Tree, join, tree_holds}
+use Rattle.ir_trees.specs.Syntax.Words.{IsTy, args_forest, clause_tree, ty_tree}
+use Rattle.ir_trees.specs.Unification.Substitutions.{alone}
+use Rattle.ir_trees.specs.Unification.Unify.{may_unify}
+use Rattle.ir_trees.specs.Validity.WellFormed.{ImplIsGiven, IsWellFormedTable, TypesFit, types_of_values}
+use Rattle.ir_trees.proofs.Growth.Kept.{args-kept, ty-kept}
+use Rattle.ir_context.proofs.Instantiation.Declared.{impl_owned}
+use Rattle.ir_context.proofs.Validity.Given.{impl_given}
 use Rattle.candidate_eval.specs.declared.eval.certainty.Certainty.TheVariants.{Yes}
 use Rattle.candidate_eval.specs.declared.eval.mode.TypingMode.{TypingMode}
 use Rattle.candidate_eval.specs.declared.eval.mode.TypingMode.TheVariants.{Coherence}

@@ -1,21 +1,21 @@
 -- What is read of an impl for a projection, and what its rule does then.
 use Rattle.std.specs.Prelude.{◌≡◌, false, Option, Some, List, [], ◌∷◌, ◌++◌}
-use Rattle.candidate_ir.specs.declared.decl.contents.ImplId.{ImplId}
-use Rattle.candidate_ir.specs.declared.ir.kinds.Args.{Args}
-use Rattle.candidate_ir.specs.declared.ir.kinds.AssocId.{AssocId}
-use Rattle.candidate_ir.specs.declared.ir.kinds.Clause.{Clause}
-use Rattle.candidate_ir.specs.declared.ir.kinds.ParamEnv.{ParamEnv}
-use Rattle.candidate_ir.specs.declared.ir.kinds.Ty.{Ty}
-use Rattle.candidate_ir.specs.Declarations.Context.{Context}
-use Rattle.candidate_ir.specs.Declarations.Contents.{Impl}
-use Rattle.candidate_ir.specs.Declarations.Declaring.{impl_at}
-use Rattle.candidate_ir.specs.Declarations.Lookups.{value_of}
-use Rattle.candidate_ir.specs.Instantiation.Folding.{lacks_argument}
-use Rattle.candidate_ir.specs.Instantiation.Owned.{ImplIsOwned}
-use Rattle.candidate_ir.specs.Syntax.Trees.{Forest, Tree, tree_holds}
-use Rattle.candidate_ir.specs.Syntax.Words.{IsTy, args_forest, env_forest, ty_tree}
-use Rattle.candidate_ir.specs.Unification.Substitutions.{alone}
-use Rattle.candidate_ir.specs.Validity.WellFormed.{ImplIsGiven}
+use Rattle.ir_trees.specs.declared.decl.contents.ImplId.{ImplId}
+use Rattle.ir_trees.specs.declared.ir.kinds.Args.{Args}
+use Rattle.ir_trees.specs.declared.ir.kinds.AssocId.{AssocId}
+use Rattle.ir_trees.specs.declared.ir.kinds.Clause.{Clause}
+use Rattle.ir_trees.specs.declared.ir.kinds.ParamEnv.{ParamEnv}
+use Rattle.ir_trees.specs.declared.ir.kinds.Ty.{Ty}
+use Rattle.ir_trees.specs.Declarations.Context.{Context}
+use Rattle.ir_trees.specs.Declarations.Contents.{Impl}
+use Rattle.ir_trees.specs.Declarations.Declaring.{impl_at}
+use Rattle.ir_trees.specs.Declarations.Lookups.{value_of}
+use Rattle.ir_trees.specs.Instantiation.Folding.{lacks_argument}
+use Rattle.ir_trees.specs.Instantiation.Owned.{ImplIsOwned}
+use Rattle.ir_trees.specs.Syntax.Trees.{Forest, Tree, tree_holds}
+use Rattle.ir_trees.specs.Syntax.Words.{IsTy, args_forest, env_forest, ty_tree}
+use Rattle.ir_trees.specs.Unification.Substitutions.{alone}
+use Rattle.ir_trees.specs.Validity.WellFormed.{ImplIsGiven}
 use Rattle.candidate_eval.specs.declared.eval.source.CandidateSource.{CandidateSource}
 use Rattle.candidate_eval.specs.Derivations.Judging.{Judged}
 use Rattle.candidate_eval.specs.Derivations.Rules.{Step, equate, nested}

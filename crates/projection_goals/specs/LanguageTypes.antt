@@ -2,23 +2,23 @@
 -- of its discriminant. Its rule for another trait says of no associated type what it is. A goal is seen as that of its trait, and its term as a
 -- row of one tree.
 use Rattle.std.specs.Prelude.{Bool, true, false, Option, Some, None, List, [], ◌∷◌}
-use Rattle.candidate_ir.specs.declared.decl.contents.LangItem.TheVariants as L
-use Rattle.candidate_ir.specs.declared.decl.definition.AdtShape.{AdtShape}
-use Rattle.candidate_ir.specs.declared.decl.definition.AdtShape.TheVariants as Shape
-use Rattle.candidate_ir.specs.declared.ir.heads.Builtin.{Builtin}
-use Rattle.candidate_ir.specs.declared.ir.heads.Builtin.TheVariants as B
-use Rattle.candidate_ir.specs.declared.ir.heads.Flag.TheVariants as F
-use Rattle.candidate_ir.specs.declared.ir.heads.Head.{Head}
-use Rattle.candidate_ir.specs.declared.ir.heads.Head.TheVariants as H
-use Rattle.candidate_ir.specs.declared.ir.heads.VariableSort.{VariableSort}
-use Rattle.candidate_ir.specs.declared.ir.heads.VariableSort.TheVariants as V
-use Rattle.candidate_ir.specs.declared.ir.kinds.TraitId.{TraitId}
-use Rattle.candidate_ir.specs.declared.ir.kinds.UintTy.TheVariants as U
-use Rattle.candidate_ir.specs.Declarations.Context.{Context}
-use Rattle.candidate_ir.specs.Declarations.Lookups.{adt_shape, definition}
-use Rattle.candidate_ir.specs.Syntax.Flags.{mark}
-use Rattle.candidate_ir.specs.Syntax.Trees.{Forest, Tree, holds, join, none, tree}
-use Rattle.candidate_ir.specs.Unification.Substitutions.{alone}
+use Rattle.ir_trees.specs.declared.decl.contents.LangItem.TheVariants as L
+use Rattle.ir_trees.specs.declared.decl.definition.AdtShape.{AdtShape}
+use Rattle.ir_trees.specs.declared.decl.definition.AdtShape.TheVariants as Shape
+use Rattle.ir_trees.specs.declared.ir.heads.Builtin.{Builtin}
+use Rattle.ir_trees.specs.declared.ir.heads.Builtin.TheVariants as B
+use Rattle.ir_trees.specs.declared.ir.heads.Flag.TheVariants as F
+use Rattle.ir_trees.specs.declared.ir.heads.Head.{Head}
+use Rattle.ir_trees.specs.declared.ir.heads.Head.TheVariants as H
+use Rattle.ir_trees.specs.declared.ir.heads.VariableSort.{VariableSort}
+use Rattle.ir_trees.specs.declared.ir.heads.VariableSort.TheVariants as V
+use Rattle.ir_trees.specs.declared.ir.kinds.TraitId.{TraitId}
+use Rattle.ir_trees.specs.declared.ir.kinds.UintTy.TheVariants as U
+use Rattle.ir_trees.specs.Declarations.Context.{Context}
+use Rattle.ir_trees.specs.Declarations.Lookups.{adt_shape, definition}
+use Rattle.ir_trees.specs.Syntax.Flags.{mark}
+use Rattle.ir_trees.specs.Syntax.Trees.{Forest, Tree, holds, join, none, tree}
+use Rattle.ir_trees.specs.Unification.Substitutions.{alone}
 use Rattle.candidate_eval.specs.declared.eval.certainty.Certainty.TheVariants.{Yes}
 use Rattle.candidate_eval.specs.Builtins.Callable.{Callable, CalledWith, Calls, Undetermined, calls, tuple_of}
 use Rattle.candidate_eval.specs.Derivations.Characterization.{binder_kinds}

@@ -1,15 +1,15 @@
 -- What a goal of the context is, in two parts.
 use Rattle.std.specs.Prelude.{◌≡◌, false}
-use Rattle.candidate_ir.specs.declared.ir.kinds.AliasKind.TheVariants as K
-use Rattle.candidate_ir.specs.declared.ir.kinds.TraitId.{TraitId}
-use Rattle.candidate_ir.specs.Declarations.Context.{Context}
-use Rattle.candidate_ir.specs.Declarations.Lookups.{assoc_trait, definition}
-use Rattle.candidate_ir.specs.Declarations.References.{ArgumentsFit}
-use Rattle.candidate_ir.specs.Instantiation.Owned.{AliasArgumentsFit}
-use Rattle.candidate_ir.specs.Syntax.Binders.{escapes}
-use Rattle.candidate_ir.specs.Syntax.Trees.{holds, is_param, join}
-use Rattle.candidate_ir.specs.Syntax.Words.{args_forest, ty_tree}
-use Rattle.candidate_ir.specs.Unification.Substitutions.{alone}
+use Rattle.ir_trees.specs.declared.ir.kinds.AliasKind.TheVariants as K
+use Rattle.ir_trees.specs.declared.ir.kinds.TraitId.{TraitId}
+use Rattle.ir_trees.specs.Declarations.Context.{Context}
+use Rattle.ir_trees.specs.Declarations.Lookups.{assoc_trait, definition}
+use Rattle.ir_trees.specs.Declarations.References.{ArgumentsFit}
+use Rattle.ir_trees.specs.Instantiation.Owned.{AliasArgumentsFit}
+use Rattle.ir_trees.specs.Syntax.Binders.{escapes}
+use Rattle.ir_trees.specs.Syntax.Trees.{holds, is_param, join}
+use Rattle.ir_trees.specs.Syntax.Words.{args_forest, ty_tree}
+use Rattle.ir_trees.specs.Unification.Substitutions.{alone}
 use Rattle.candidate_assembly.specs.Goals.Projections.{trait_number}
 use Rattle.projection_goals.specs.declared.kind.NormalizesTo.{NormalizesTo}
 

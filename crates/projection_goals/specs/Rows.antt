@@ -1,12 +1,12 @@
 -- Rows of trees in two parts, and their first trees: lemmas that the laws of goals of projections rest on.
 use Rattle.std.proofs.Common.{◌≡◌, ℕ, Bool, false, refl, ap}
-use Rattle.candidate_ir.specs.declared.ir.heads.Head.{Head}
-use Rattle.candidate_ir.specs.declared.ir.heads.Head.TheVariants as H
-use Rattle.candidate_ir.specs.Hierarchy.Supers.{after_first}
-use Rattle.candidate_ir.specs.Syntax.Binders.{escapes}
-use Rattle.candidate_ir.specs.Syntax.Trees.{Forest, Tree, holds, join, none, tree}
-use Rattle.candidate_ir.specs.Unification.Substitutions.{alone}
-use Rattle.candidate_ir.proofs.Instantiation.Folding.{begin}
+use Rattle.ir_trees.specs.declared.ir.heads.Head.{Head}
+use Rattle.ir_trees.specs.declared.ir.heads.Head.TheVariants as H
+use Rattle.ir_trees.specs.Hierarchy.Supers.{after_first}
+use Rattle.ir_trees.specs.Syntax.Binders.{escapes}
+use Rattle.ir_trees.specs.Syntax.Trees.{Forest, Tree, holds, join, none, tree}
+use Rattle.ir_trees.specs.Unification.Substitutions.{alone}
+use Rattle.ir_trees.proofs.Instantiation.Folding.{begin}
 use Rattle.candidate_eval.specs.Dynamic.ObjectRequirements.{first_tree}
 use Rattle.candidate_eval.specs.Judges.States.{State, resolved, resolved_tree}
 use Rattle.candidate_eval.proofs.Marks.Closed.{after-closed, closed, closed-parts}

@@ -1,22 +1,22 @@
 //! Whether a goal may be asked, and what it mentions.
 
 ghost use Rattle.std.specs.Prelude.{◌≡◌, true, IfErr, IfOk};
-ghost use Rattle.candidate_ir.specs.Declarations.Context.{Grows};
-ghost use Rattle.candidate_ir.specs.declared.ir.kinds.AliasKind.TheVariants as alias_kind;
-ghost use Rattle.candidate_ir.specs.Syntax.Trees.{heights, join};
-ghost use Rattle.candidate_ir.specs.Syntax.Words.{IsArgs, IsMkStop, IsParamEnv, IsTy, args_forest, ty_tree};
-ghost use Rattle.candidate_ir.specs.Unification.Substitutions.{alone};
+ghost use Rattle.ir_trees.specs.Declarations.Context.{Grows};
+ghost use Rattle.ir_trees.specs.declared.ir.kinds.AliasKind.TheVariants as alias_kind;
+ghost use Rattle.ir_trees.specs.Syntax.Trees.{heights, join};
+ghost use Rattle.ir_trees.specs.Syntax.Words.{IsArgs, IsMkStop, IsParamEnv, IsTy, args_forest, ty_tree};
+ghost use Rattle.ir_trees.specs.Unification.Substitutions.{alone};
 ghost use Rattle.candidate_assembly.specs.Goals.KindShown.{IsGoal};
 ghost use Rattle.projection_goals.specs.MayBeAsked.{Fits, IsClosed};
 ghost use Rattle.projection_goals.specs.Normalizing.{normalizes_kind};
 
 use crate::kind::{NormalizesTo, trait_of};
-use candidate_ir::decl::Cx;
-use candidate_ir::decl::make::Make;
-use candidate_ir::ir::heads::Flag;
-use candidate_ir::ir::kinds::{AliasKind, Args, AssocId, GenericArg, ParamEnv, TraitRef, TyKind};
-use candidate_ir::ir::stop::Stop;
-use candidate_ir::ir::trees::Trees;
+use ir_context::decl::Cx;
+use ir_context::decl::make::Make;
+use ir_trees::ir::heads::Flag;
+use ir_trees::ir::kinds::{AliasKind, Args, AssocId, GenericArg, ParamEnv, TraitRef, TyKind};
+use ir_trees::ir::stop::Stop;
+use ir_trees::ir::trees::Trees;
 use std::alloc::Global;
 
 impl NormalizesTo {

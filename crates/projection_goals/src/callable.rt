@@ -1,11 +1,11 @@
 //! The rule for what can be called: its output is what the associated types of `Fn`, `FnMut` and `FnOnce` are.
 
 ghost use Rattle.std.specs.Prelude.{◌≡◌, [], None, Some, false, IfErr, IfOk};
-ghost use Rattle.candidate_ir.specs.Declarations.Context.{world};
-ghost use Rattle.candidate_ir.specs.Declarations.References.{ArgumentsFit};
-ghost use Rattle.candidate_ir.specs.Declarations.Worlds.{TraitSort, parameters};
-ghost use Rattle.candidate_ir.specs.Syntax.Trees.{is_param, tree_holds};
-ghost use Rattle.candidate_ir.specs.Syntax.Words.{IsArgs, IsParamEnv, IsTy, ty_tree};
+ghost use Rattle.ir_trees.specs.Declarations.Context.{world};
+ghost use Rattle.ir_trees.specs.Declarations.References.{ArgumentsFit};
+ghost use Rattle.ir_trees.specs.Declarations.Worlds.{TraitSort, parameters};
+ghost use Rattle.ir_trees.specs.Syntax.Trees.{is_param, tree_holds};
+ghost use Rattle.ir_trees.specs.Syntax.Words.{IsArgs, IsParamEnv, IsTy, ty_tree};
 ghost use Rattle.candidate_eval.specs.Builtins.Callable.{CalledWith, IsCallable, callable_of};
 ghost use Rattle.candidate_eval.specs.Interface.Accounts.{by_stop, if_refused};
 ghost use Rattle.candidate_eval.specs.Interface.Shown.{Keeps, StopsSomehow, view};
@@ -28,9 +28,9 @@ use candidate_eval::eval::context::{EvalCtxt, ProbeKind};
 use candidate_eval::eval::refusal::NoSolutionOrStop;
 use candidate_eval::eval::response::Candidate;
 use candidate_eval::structural::callable::extract_tupled_inputs_and_output_from_callable;
-use candidate_ir::decl::contents::LangItem;
-use candidate_ir::decl::make::Make;
-use candidate_ir::ir::kinds::{Binder, ClosureKind, GenericArg, ParamEnv, TraitId, TraitRef, Ty};
+use ir_context::decl::make::Make;
+use ir_trees::decl::contents::LangItem;
+use ir_trees::ir::kinds::{Binder, ClosureKind, GenericArg, ParamEnv, TraitId, TraitRef, Ty};
 use std::alloc::Global;
 
 /// Equates the arguments with the self type and these inputs, where they pass quick rejection, and then the term with the output.

@@ -1,12 +1,12 @@
 //! The rule of an impl: a projection is what an impl of its trait says that the associated type is.
 
 ghost use Rattle.std.specs.Prelude.{◌≡◌, ◌∷◌, true, false, None, IfErr, IfOk, MatchOption};
-ghost use Rattle.candidate_ir.specs.Declarations.Worlds.{kinds_of};
-ghost use Rattle.candidate_ir.specs.Instantiation.Folding.{lacks_argument};
-ghost use Rattle.candidate_ir.specs.Instantiation.Owned.{ClausesAreOwned};
-ghost use Rattle.candidate_ir.specs.Syntax.Trees.{holds, tree_holds};
-ghost use Rattle.candidate_ir.specs.Syntax.Words.{IsArgs, IsTy, args_forest, ty_tree};
-ghost use Rattle.candidate_ir.specs.declared.ir.kinds.ParamEnv.{ParamEnv as EnvNumber};
+ghost use Rattle.ir_trees.specs.Declarations.Worlds.{kinds_of};
+ghost use Rattle.ir_trees.specs.Instantiation.Folding.{lacks_argument};
+ghost use Rattle.ir_trees.specs.Instantiation.Owned.{ClausesAreOwned};
+ghost use Rattle.ir_trees.specs.Syntax.Trees.{holds, tree_holds};
+ghost use Rattle.ir_trees.specs.Syntax.Words.{IsArgs, IsTy, args_forest, ty_tree};
+ghost use Rattle.ir_trees.specs.declared.ir.kinds.ParamEnv.{ParamEnv as EnvNumber};
 ghost use Rattle.candidate_eval.specs.declared.eval.mode.TypingMode.{TypingMode};
 ghost use Rattle.candidate_eval.specs.declared.eval.source.CandidateSource.{CandidateSource};
 ghost use Rattle.candidate_eval.specs.declared.eval.source.CandidateSource.TheVariants as source;
@@ -35,12 +35,12 @@ use candidate_eval::eval::context::{EvalCtxt, ProbeKind};
 use candidate_eval::eval::refusal::NoSolutionOrStop;
 use candidate_eval::eval::response::{Candidate, CanonicalResponse};
 use candidate_eval::eval::source::CandidateSource;
-use candidate_ir::decl::Cx;
-use candidate_ir::decl::contents::{ImplId, ImplPolarity};
-use candidate_ir::ir::kinds::{Args, AssocId, Clause, GoalSource, ParamEnv, Ty};
-use candidate_ir::ir::stop::Stop;
-use candidate_ir::ir::trees::Trees;
-use candidate_ir::ir::unify::RightSide;
+use ir_context::decl::Cx;
+use ir_trees::decl::contents::{ImplId, ImplPolarity};
+use ir_trees::ir::kinds::{Args, AssocId, Clause, GoalSource, ParamEnv, Ty};
+use ir_trees::ir::stop::Stop;
+use ir_trees::ir::trees::Trees;
+use ir_trees::ir::unify::RightSide;
 use std::alloc::Global;
 
 /// What an impl declares, of one associated type.

@@ -1,12 +1,12 @@
 //! Goals that a projection is a term, as a kind of goals.
 
 ghost use Rattle.std.specs.Prelude.{◌≡◌, refl};
-ghost use Rattle.candidate_ir.specs.declared.ir.heads.Flag.TheVariants as flag;
-ghost use Rattle.candidate_ir.specs.Declarations.Lookups.{assoc_trait, definition};
-ghost use Rattle.candidate_ir.specs.Declarations.References.{ArgumentsFit, reference_of};
-ghost use Rattle.candidate_ir.specs.Syntax.Flags.{mark};
-ghost use Rattle.candidate_ir.specs.Syntax.Trees.{holds};
-ghost use Rattle.candidate_ir.specs.Syntax.Words.{IsArgs};
+ghost use Rattle.ir_trees.specs.declared.ir.heads.Flag.TheVariants as flag;
+ghost use Rattle.ir_trees.specs.Declarations.Lookups.{assoc_trait, definition};
+ghost use Rattle.ir_trees.specs.Declarations.References.{ArgumentsFit, reference_of};
+ghost use Rattle.ir_trees.specs.Syntax.Flags.{mark};
+ghost use Rattle.ir_trees.specs.Syntax.Trees.{holds};
+ghost use Rattle.ir_trees.specs.Syntax.Words.{IsArgs};
 ghost use Rattle.candidate_assembly.specs.Goals.KindShown.{IsGoal};
 ghost use Rattle.candidate_assembly.specs.Goals.Projections.{trait_number};
 ghost use Rattle.projection_goals.specs.Normalizing.{normalizes_goal, normalizes_kind, normalizes_rules, reference_of_goal};
@@ -22,14 +22,14 @@ use candidate_eval::eval::clauses::self_ty;
 use candidate_eval::eval::context::EvalCtxt;
 use candidate_eval::eval::refusal::NoSolutionOrStop;
 use candidate_eval::eval::response::{Candidate, CanonicalResponse};
-use candidate_ir::decl::Cx;
-use candidate_ir::decl::contents::ImplId;
-use candidate_ir::ir::heads::Flag;
-use candidate_ir::ir::kinds::{
+use ir_context::decl::Cx;
+use ir_trees::decl::contents::ImplId;
+use ir_trees::ir::heads::Flag;
+use ir_trees::ir::kinds::{
     AliasTy, AssocId, Clause, ParamEnv, PredicatePolarity, TraitId, TraitPredicate, TraitRef, Ty,
 };
-use candidate_ir::ir::stop::Stop;
-use candidate_ir::ir::trees::Trees;
+use ir_trees::ir::stop::Stop;
+use ir_trees::ir::trees::Trees;
 use std::alloc::Global;
 
 /// That a projection is a term: the associated type of its arguments is this type.

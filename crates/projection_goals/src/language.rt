@@ -21,9 +21,9 @@ use candidate_eval::eval::context::{EvalCtxt, ProbeKind};
 use candidate_eval::eval::refusal::NoSolutionOrStop;
 use candidate_eval::eval::response::Candidate;
 use candidate_eval::eval::source::{BuiltinImplSource, CandidateSource};
-use candidate_ir::decl::make::Make;
-use candidate_ir::ir::kinds::{GenericArg, ParamEnv};
-use candidate_ir::ir::trees::Trees;
+use ir_context::decl::make::Make;
+use ir_trees::ir::kinds::{GenericArg, ParamEnv};
+use ir_trees::ir::trees::Trees;
 use std::alloc::Global;
 
 /// The candidate of a goal whose term is that type. It is called in a probe.

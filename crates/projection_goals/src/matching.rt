@@ -1,8 +1,8 @@
 //! Clauses that goals of projections are matched with.
 
 ghost use Rattle.std.specs.Prelude.{◌≡◌, true, false, IfOk, IfErr, MatchOption, OnOk, OnErr};
-ghost use Rattle.candidate_ir.specs.declared.ir.kinds.ParamEnv.{ParamEnv as EnvNumber};
-ghost use Rattle.candidate_ir.specs.Syntax.Words.{IsArgs, IsClause, clause_tree};
+ghost use Rattle.ir_trees.specs.declared.ir.kinds.ParamEnv.{ParamEnv as EnvNumber};
+ghost use Rattle.ir_trees.specs.Syntax.Words.{IsArgs, IsClause, clause_tree};
 ghost use Rattle.candidate_eval.specs.Dynamic.Objects.{IsBound, is_about};
 ghost use Rattle.candidate_eval.specs.Interface.Accounts.{by_stop, if_refused};
 ghost use Rattle.candidate_eval.specs.Derivations.Judging.{At, Over, Refused};
@@ -21,10 +21,10 @@ use candidate_assembly::assembly::kind::NoSolution;
 use candidate_eval::eval::binders::instantiate_clause_with_infer;
 use candidate_eval::eval::context::EvalCtxt;
 use candidate_eval::eval::refusal::NoSolutionOrStop;
-use candidate_ir::decl::Cx;
-use candidate_ir::ir::kinds::{AliasId, Clause, ClauseKind, ParamEnv, ProjectionPredicate};
-use candidate_ir::ir::trees::Trees;
-use candidate_ir::ir::unify::RightSide;
+use ir_context::decl::Cx;
+use ir_trees::ir::kinds::{AliasId, Clause, ClauseKind, ParamEnv, ProjectionPredicate};
+use ir_trees::ir::trees::Trees;
+use ir_trees::ir::unify::RightSide;
 use std::alloc::Global;
 
 /// What a clause says of the associated type, if it is about that one.

@@ -1,18 +1,18 @@
 //! Types that the rules of the language name, and what they say of a type by its head.
 
 ghost use Rattle.std.specs.Prelude.{◌≡◌, IfErr, IfOk};
-ghost use Rattle.candidate_ir.specs.Declarations.Context.{Grows};
-ghost use Rattle.candidate_ir.specs.Syntax.Words.{IsTy, ty_tree};
+ghost use Rattle.ir_trees.specs.Declarations.Context.{Grows};
+ghost use Rattle.ir_trees.specs.Syntax.Words.{IsTy, ty_tree};
 ghost use Rattle.candidate_eval.specs.Interface.Unmade.{IsUnmade};
 ghost use Rattle.projection_goals.specs.LanguageTypes.{discriminant, discriminant_of_builtin, discriminant_of_shape, if_numeric, is_nothing, metadata, metadata_of_builtin, metadata_of_shape, named_type};
 
-use candidate_ir::decl::Cx;
-use candidate_ir::decl::definition::AdtShape;
-use candidate_ir::decl::make::{Build, Make};
-use candidate_ir::ir::heads::{Builtin, Head, VariableSort};
-use candidate_ir::ir::kinds::{Ty, TyKind, UintTy};
-use candidate_ir::ir::stop::Stop;
-use candidate_ir::ir::trees::Trees;
+use ir_context::decl::Cx;
+use ir_context::decl::make::{Build, Make};
+use ir_trees::decl::definition::AdtShape;
+use ir_trees::ir::heads::{Builtin, Head, VariableSort};
+use ir_trees::ir::kinds::{Ty, TyKind, UintTy};
+use ir_trees::ir::stop::Stop;
+use ir_trees::ir::trees::Trees;
 
 /// A type that the rules of the language name.
 #[derive(Clone, Copy)]

@@ -1,9 +1,9 @@
 //! Goals that a projection is a term, proved.
 
 ghost use Rattle.std.specs.Prelude.{◌≡◌, None, Some, IfOk, IfErr};
-ghost use Rattle.candidate_ir.specs.declared.ir.kinds.AliasKind.TheVariants as alias_kind;
-ghost use Rattle.candidate_ir.specs.declared.ir.kinds.TyKind.TheVariants as type_kind;
-ghost use Rattle.candidate_ir.specs.Syntax.Words.{IsParamEnv, IsTy, kind_tree, ty_tree};
+ghost use Rattle.ir_trees.specs.declared.ir.kinds.AliasKind.TheVariants as alias_kind;
+ghost use Rattle.ir_trees.specs.declared.ir.kinds.TyKind.TheVariants as type_kind;
+ghost use Rattle.ir_trees.specs.Syntax.Words.{IsParamEnv, IsTy, kind_tree, ty_tree};
 ghost use Rattle.candidate_eval.specs.Interface.Accounts.{by_stop, if_refused};
 ghost use Rattle.candidate_eval.specs.Interface.Shown.{Keeps, KeepsBut, StopsSomehow, view};
 ghost use Rattle.candidate_eval.specs.Outcomes.ResponseTrees.{IsResponse, response_of};
@@ -21,9 +21,9 @@ use candidate_eval::eval::certainty::Certainty;
 use candidate_eval::eval::context::{EvalCtxt, ProbeKind};
 use candidate_eval::eval::refusal::NoSolutionOrStop;
 use candidate_eval::eval::response::CanonicalResponse;
-use candidate_ir::decl::make::Make;
-use candidate_ir::ir::kinds::{GenericArg, ParamEnv, Ty, TyKind};
-use candidate_ir::ir::stop::Stop;
+use ir_context::decl::make::Make;
+use ir_trees::ir::kinds::{GenericArg, ParamEnv, Ty, TyKind};
+use ir_trees::ir::stop::Stop;
 use std::alloc::Global;
 
 /// The response where two types are made equal. It is called in a probe.

@@ -1,14 +1,14 @@
 //! What the rules of these goals have in common.
 
 ghost use Rattle.std.specs.Prelude.{◌≡◌, Some, None, IfErr, IfOk};
-ghost use Rattle.candidate_ir.specs.Syntax.Words.{IsArgs, IsParamEnv, IsTy};
+ghost use Rattle.ir_trees.specs.Syntax.Words.{IsArgs, IsParamEnv, IsTy};
 ghost use Rattle.candidate_eval.specs.Interface.Accounts.{by_stop, if_refused};
 ghost use Rattle.candidate_eval.specs.Interface.Shown.{Keeps, StopsSomehow, view};
 ghost use Rattle.projection_goals.specs.Equations.{both_accepted_here};
 
 use candidate_eval::eval::context::EvalCtxt;
 use candidate_eval::eval::refusal::NoSolutionOrStop;
-use candidate_ir::ir::kinds::{Args, GenericArg, ParamEnv, Ty};
+use ir_trees::ir::kinds::{Args, GenericArg, ParamEnv, Ty};
 
 /// Two lists are made equal, and then two types. The goals that this leaves become pending.
 pub(crate) fn equate_both<E: EvalCtxt>(

@@ -3,13 +3,13 @@
 #![tactic(auto)]
 
 ghost use Rattle.std.specs.Prelude.{ℕ, List};
-ghost use Rattle.candidate_ir.specs.Syntax.Trees.{Tree};
-ghost use Rattle.candidate_ir.specs.declared.decl.limits.Limits.{Limits};
-ghost use Rattle.candidate_ir.specs.Declarations.Worlds.{World};
+ghost use Rattle.ir_trees.specs.Syntax.Trees.{Tree};
+ghost use Rattle.ir_trees.specs.declared.decl.limits.Limits.{Limits};
+ghost use Rattle.ir_trees.specs.Declarations.Worlds.{World};
 ghost use Rattle.candidate_eval.specs.Judges.Lawful.{Lawful};
 ghost use Rattle.candidate_eval.specs.Judges.Soundness.{IsSolution, IsSound, Live};
 ghost use Rattle.candidate_eval.specs.Judges.States.{State};
-ghost use Rattle.candidate_ir.specs.Unification.Substitutions.{Substitution};
+ghost use Rattle.ir_trees.specs.Unification.Substitutions.{Substitution};
 ghost use Rattle.rounds_judge.specs.Table.GoalTable.{GoalTable, well_entered};
 ghost use Rattle.rounds_judge.specs.Equations.WithErrors.{EquatesErrors};
 ghost use Rattle.rounds_judge.specs.Table.Decided.{FinalDecides};

@@ -1,9 +1,9 @@
 -- Members of a list of arguments.
 use Rattle.std.proofs.Common.{◌≡◌, ℕ, zero, suc, ◌<◌, List, [], ◌∷◌, length, get_or, subst, arith}
-use Rattle.candidate_ir.specs.declared.ir.kinds.GenericArg.{GenericArg}
-use Rattle.candidate_ir.specs.Instantiation.Folds.{IsArg}
-use Rattle.candidate_ir.specs.Syntax.Trees.{Tree}
-use Rattle.candidate_ir.specs.Syntax.Words.{ListFits}
+use Rattle.ir_trees.specs.declared.ir.kinds.GenericArg.{GenericArg}
+use Rattle.ir_trees.specs.Instantiation.Folds.{IsArg}
+use Rattle.ir_trees.specs.Syntax.Trees.{Tree}
+use Rattle.ir_trees.specs.Syntax.Words.{ListFits}
 
 -- What stands in a list that fits is of its sort.
 pub IsArg-listed : (ts : List Tree) (xs : List GenericArg) (i : ℕ) (d a : GenericArg) → i < length xs → get_or xs i d ≡ a → ListFits ts xs → IsArg ts a

@@ -1,11 +1,11 @@
 //! Clauses and headers of impls.
 
-ghost use Rattle.candidate_ir.specs.Syntax.Words.{ClauseListFits, IsArgs, IsClause};
+ghost use Rattle.ir_trees.specs.Syntax.Words.{ClauseListFits, IsArgs, IsClause};
 
 use crate::types::{Below, Spelling, add_number};
-use candidate_ir::decl::contents::{ImplId, ImplPolarity};
-use candidate_ir::ir::kinds::{Clause, ClauseKind, PredicatePolarity, TraitPredicate, VarKind};
-use candidate_ir::ir::trees::Trees;
+use ir_trees::decl::contents::{ImplId, ImplPolarity};
+use ir_trees::ir::kinds::{Clause, ClauseKind, PredicatePolarity, TraitPredicate, VarKind};
+use ir_trees::ir::trees::Trees;
 use std::alloc::{AllocError, Global};
 
 impl Spelling<'_> {

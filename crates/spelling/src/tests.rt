@@ -1,18 +1,20 @@
 //! What is spelled how.
 
-ghost use Rattle.candidate_ir.specs.Syntax.Words.{ListFits};
+ghost use Rattle.ir_trees.specs.Syntax.Words.{ListFits};
 
 use crate::Spelling;
-use candidate_ir::decl::contents::{ImplId, ImplPolarity};
-use candidate_ir::decl::definition::{AssocKind, CrateId};
-use candidate_ir::decl::make::Build;
-use candidate_ir::decl::{AdtFlags, AdtShape, Cx, DeclsBuilder, TraitFlags};
-use candidate_ir::ir::kinds::{
+use ir_builder::decl::DeclsBuilder;
+use ir_context::decl::Cx;
+use ir_context::decl::make::Build;
+use ir_trees::decl::contents::{ImplId, ImplPolarity};
+use ir_trees::decl::definition::{AssocKind, CrateId};
+use ir_trees::decl::{AdtFlags, AdtShape, TraitFlags};
+use ir_trees::ir::kinds::{
     AdtId, AliasTerm, AliasTy, AssocId, Binder, BoundVar, ClauseKind, ConstKind, FnSig, GenericArg,
     InferTy, Mutability, Placeholder, PredicatePolarity, ProjectionPredicate, RegionKind, TraitId,
     TraitPredicate, TraitRef, TyKind, UintTy, VarKind,
 };
-use candidate_ir::ir::stop::Stop;
+use ir_trees::ir::stop::Stop;
 use std::alloc::Global;
 
 /// What is declared, by the numbers of definitions.

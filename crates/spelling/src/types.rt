@@ -1,16 +1,16 @@
 //! Types, constants and regions.
 
 ghost use Rattle.std.specs.Prelude.{◌≡◌};
-ghost use Rattle.candidate_ir.specs.Instantiation.Folds.{IsArg};
-ghost use Rattle.candidate_ir.specs.Syntax.Words.{IsArgs, IsConst, IsPreds, IsRegion, IsTy, IsVars, PredFits};
+ghost use Rattle.ir_trees.specs.Instantiation.Folds.{IsArg};
+ghost use Rattle.ir_trees.specs.Syntax.Words.{IsArgs, IsConst, IsPreds, IsRegion, IsTy, IsVars, PredFits};
 
-use candidate_ir::decl::context::Cx;
-use candidate_ir::ir::kinds::{
+use ir_context::decl::context::Cx;
+use ir_trees::ir::kinds::{
     AliasKind, AliasTy, Args, AssocId, Binder, BoundVar, Const, ConstKind, ExistentialPredicate,
     FloatTy, FnSig, GenericArg, InferTy, IntTy, Mutability, Preds, Region, RegionKind, TraitRef,
     Ty, TyKind, UintTy, VarKind, Vars,
 };
-use candidate_ir::ir::trees::Trees;
+use ir_trees::ir::trees::Trees;
 use std::alloc::AllocError;
 
 /// How many types stand inside one another in a type of the greatest height.

@@ -4,46 +4,46 @@ use Rattle.std.specs.Prelude.{IfErr, IfSome, Result, Ok, Err}
 use Rattle.std.proofs.lemmas.List.{append-nil, map-append}
 use Rattle.std.proofs.lemmas.List.Elements.{All-cons}
 use Rattle.std.proofs.lemmas.Option.{slice_get-map, slice_get_cases, slice_get_within}
-use Rattle.candidate_ir.specs.declared.decl.contents.AliasBoundKind.{AliasBoundKind}
-use Rattle.candidate_ir.specs.declared.decl.contents.AliasBoundKind.TheVariants.{SelfBounds, NonSelfBounds}
-use Rattle.candidate_ir.specs.declared.decl.definition.AssocKind.TheVariants as A
-use Rattle.candidate_ir.specs.declared.decl.definition.DefinitionKind.{DefinitionKind}
-use Rattle.candidate_ir.specs.declared.decl.definition.DefinitionKind.TheVariants as D
-use Rattle.candidate_ir.specs.declared.ir.heads.Head.TheVariants as H
-use Rattle.candidate_ir.specs.declared.ir.kinds.AliasId.{AliasId}
-use Rattle.candidate_ir.specs.declared.ir.kinds.AliasKind.{AliasKind}
-use Rattle.candidate_ir.specs.declared.ir.kinds.AliasKind.TheVariants as AK
-use Rattle.candidate_ir.specs.declared.ir.kinds.AliasTy.{AliasTy}
-use Rattle.candidate_ir.specs.declared.ir.kinds.GenericArg.{GenericArg}
-use Rattle.candidate_ir.specs.declared.ir.kinds.GenericArg.TheVariants as G
-use Rattle.candidate_ir.specs.declared.ir.kinds.TyKind.TheVariants as TK
-use Rattle.candidate_ir.specs.declared.decl.definition.DefinitionSort.{DefinitionSort}
-use Rattle.candidate_ir.specs.declared.ir.heads.Head.{Head}
-use Rattle.candidate_ir.specs.declared.ir.kinds.Clause.{Clause}
-use Rattle.candidate_ir.specs.declared.ir.kinds.Args.{Args}
-use Rattle.candidate_ir.specs.declared.ir.kinds.ParamEnv.{ParamEnv}
-use Rattle.candidate_ir.specs.declared.ir.kinds.Ty.{Ty}
-use Rattle.candidate_ir.specs.declared.ir.stop.Stop.{Stop}
-use Rattle.candidate_ir.specs.Declarations.Context.{Context, Grows, definition_of, parameter_kind, sort_of, world}
-use Rattle.candidate_ir.specs.Declarations.Contents.{Bounds}
-use Rattle.candidate_ir.specs.Declarations.Declaration.{Declaration}
-use Rattle.candidate_ir.specs.Declarations.Declaring.{bounds_at, bounds_place, place_of}
-use Rattle.candidate_ir.specs.Instantiation.Folding.{substituted_tree}
-use Rattle.candidate_ir.specs.Validity.Held.{bounds_held, definition_held, if_there}
-use Rattle.candidate_ir.specs.Declarations.Lookups.{kind_of_declared, maybe}
-use Rattle.candidate_ir.specs.Instantiation.Folds.{node}
-use Rattle.candidate_ir.specs.Syntax.Nodes.{kind_at, tree_at}
-use Rattle.candidate_ir.specs.Instantiation.Owned.{bounds_among}
-use Rattle.candidate_ir.specs.Validity.WellFormed.{AreGiven, IsWellFormedTable}
-use Rattle.candidate_ir.specs.Syntax.Trees.{Kind, ArgumentsKind, ConstantKind, NoKind, RegionKind, TypeKind, Forest, none, tree, Tree, holds, is_param, kind_of}
-use Rattle.candidate_ir.specs.Unification.Substitutions.{alone}
-use Rattle.candidate_ir.specs.Syntax.Words.{ClauseListFits, IsArgs, IsClause, IsTy, ListFits, clause_tree, args_forest, kind_tree, list_forest, ty_tree}
-use Rattle.candidate_ir.specs.Declarations.Worlds.{World, AssociatedTypeSort, OpaqueSort, alias_kinds, joined, kinds_of, parameters, parameters_of, sort_number}
-use Rattle.candidate_ir.proofs.Validity.Given.{definition_given, non_self_bounds_fit, self_bounds_fit}
-use Rattle.candidate_ir.proofs.Instantiation.Joining.{clause-kept}
-use Rattle.candidate_ir.proofs.Instantiation.Folding.{or-right}
-use Rattle.candidate_ir.proofs.Growth.Kept.{args-kept, grows-refl, world-kept}
-use Rattle.candidate_ir.proofs.Syntax.Rows.{join-none, kind-of, row-list, row-single}
+use Rattle.ir_trees.specs.declared.decl.contents.AliasBoundKind.{AliasBoundKind}
+use Rattle.ir_trees.specs.declared.decl.contents.AliasBoundKind.TheVariants.{SelfBounds, NonSelfBounds}
+use Rattle.ir_trees.specs.declared.decl.definition.AssocKind.TheVariants as A
+use Rattle.ir_trees.specs.declared.decl.definition.DefinitionKind.{DefinitionKind}
+use Rattle.ir_trees.specs.declared.decl.definition.DefinitionKind.TheVariants as D
+use Rattle.ir_trees.specs.declared.ir.heads.Head.TheVariants as H
+use Rattle.ir_trees.specs.declared.ir.kinds.AliasId.{AliasId}
+use Rattle.ir_trees.specs.declared.ir.kinds.AliasKind.{AliasKind}
+use Rattle.ir_trees.specs.declared.ir.kinds.AliasKind.TheVariants as AK
+use Rattle.ir_trees.specs.declared.ir.kinds.AliasTy.{AliasTy}
+use Rattle.ir_trees.specs.declared.ir.kinds.GenericArg.{GenericArg}
+use Rattle.ir_trees.specs.declared.ir.kinds.GenericArg.TheVariants as G
+use Rattle.ir_trees.specs.declared.ir.kinds.TyKind.TheVariants as TK
+use Rattle.ir_trees.specs.declared.decl.definition.DefinitionSort.{DefinitionSort}
+use Rattle.ir_trees.specs.declared.ir.heads.Head.{Head}
+use Rattle.ir_trees.specs.declared.ir.kinds.Clause.{Clause}
+use Rattle.ir_trees.specs.declared.ir.kinds.Args.{Args}
+use Rattle.ir_trees.specs.declared.ir.kinds.ParamEnv.{ParamEnv}
+use Rattle.ir_trees.specs.declared.ir.kinds.Ty.{Ty}
+use Rattle.ir_trees.specs.declared.ir.stop.Stop.{Stop}
+use Rattle.ir_trees.specs.Declarations.Context.{Context, Grows, definition_of, parameter_kind, sort_of, world}
+use Rattle.ir_trees.specs.Declarations.Contents.{Bounds}
+use Rattle.ir_trees.specs.Declarations.Declaration.{Declaration}
+use Rattle.ir_trees.specs.Declarations.Declaring.{bounds_at, bounds_place, place_of}
+use Rattle.ir_trees.specs.Instantiation.Folding.{substituted_tree}
+use Rattle.ir_trees.specs.Validity.Held.{bounds_held, definition_held, if_there}
+use Rattle.ir_trees.specs.Declarations.Lookups.{kind_of_declared, maybe}
+use Rattle.ir_trees.specs.Instantiation.Folds.{node}
+use Rattle.ir_trees.specs.Syntax.Nodes.{kind_at, tree_at}
+use Rattle.ir_trees.specs.Instantiation.Owned.{bounds_among}
+use Rattle.ir_trees.specs.Validity.WellFormed.{AreGiven, IsWellFormedTable}
+use Rattle.ir_trees.specs.Syntax.Trees.{Kind, ArgumentsKind, ConstantKind, NoKind, RegionKind, TypeKind, Forest, none, tree, Tree, holds, is_param, kind_of}
+use Rattle.ir_trees.specs.Unification.Substitutions.{alone}
+use Rattle.ir_trees.specs.Syntax.Words.{ClauseListFits, IsArgs, IsClause, IsTy, ListFits, clause_tree, args_forest, kind_tree, list_forest, ty_tree}
+use Rattle.ir_trees.specs.Declarations.Worlds.{World, AssociatedTypeSort, OpaqueSort, alias_kinds, joined, kinds_of, parameters, parameters_of, sort_number}
+use Rattle.ir_context.proofs.Validity.Given.{definition_given, non_self_bounds_fit, self_bounds_fit}
+use Rattle.ir_folds.proofs.Instantiation.Joining.{clause-kept}
+use Rattle.ir_trees.proofs.Instantiation.Folding.{or-right}
+use Rattle.ir_trees.proofs.Growth.Kept.{args-kept, grows-refl, world-kept}
+use Rattle.ir_trees.proofs.Syntax.Rows.{join-none, kind-of, row-list, row-single}
 use Rattle.candidate_eval.specs.declared.eval.certainty.Certainty.TheVariants.{Yes}
 use Rattle.candidate_eval.specs.declared.eval.source.CandidateSource.TheVariants.{AliasBound}
 use Rattle.candidate_eval.specs.Judges.Alike.{JudgesAlike, LooksAlike, info}
@@ -81,7 +81,7 @@ use Rattle.candidate_assembly.proofs.Calls.Considering.{not-both}
 use Rattle.candidate_assembly.proofs.Lists.Listing.{answers-joined, candidates-kept, judged-alike, whole_list}
 use Rattle.candidate_assembly.proofs.Goals.Standing.{stands-alike, stands-below}
 use Rattle.candidate_assembly.proofs.Calls.Stepping.{evaluator-own, memory-own}
-use Rattle.candidate_ir.specs.declared.ir.stop.Stop.TheVariants.{Memory}
+use Rattle.ir_trees.specs.declared.ir.stop.Stop.TheVariants.{Memory}
 
 -- Aliases.
 

@@ -2,23 +2,23 @@
 use Rattle.std.proofs.Common.{◌≡◌, ◌-◌, arith, ℕ, zero, suc, true, false, Option, Some, None, List, ◌∷◌, ◌++◌, refl, sym, ap, subst, ◌∙◌}
 use Rattle.std.proofs.lemmas.List.{append-nil}
 use Rattle.std.specs.Prelude.{IfErr, Result, Ok, Err}
-use Rattle.candidate_ir.specs.declared.decl.contents.AliasBoundKind.{AliasBoundKind}
-use Rattle.candidate_ir.specs.declared.decl.contents.AliasBoundKind.TheVariants.{SelfBounds, NonSelfBounds}
-use Rattle.candidate_ir.specs.declared.ir.heads.Head.{Head}
-use Rattle.candidate_ir.specs.declared.ir.heads.Head.TheVariants as H
-use Rattle.candidate_ir.specs.declared.ir.kinds.AliasKind.TheVariants as AK
-use Rattle.candidate_ir.specs.declared.ir.kinds.AliasTy.{AliasTy}
-use Rattle.candidate_ir.specs.declared.ir.kinds.Args.{Args}
-use Rattle.candidate_ir.specs.declared.ir.kinds.ParamEnv.{ParamEnv}
-use Rattle.candidate_ir.specs.declared.ir.kinds.Ty.{Ty}
-use Rattle.candidate_ir.specs.declared.ir.kinds.TyKind.TheVariants as TK
-use Rattle.candidate_ir.specs.declared.ir.stop.Stop.{Stop}
-use Rattle.candidate_ir.specs.declared.ir.stop.Stop.TheVariants.{AliasDepth}
-use Rattle.candidate_ir.specs.Declarations.Context.{Context, Grows}
-use Rattle.candidate_ir.specs.Syntax.Trees.{Tree, binders_of}
-use Rattle.candidate_ir.specs.Validity.WellFormed.{IsWellFormedTable}
-use Rattle.candidate_ir.specs.Syntax.Words.{IsTy, env_forest, kind_tree, ty_tree}
-use Rattle.candidate_ir.proofs.Growth.Kept.{grows-refl, grows-trans}
+use Rattle.ir_trees.specs.declared.decl.contents.AliasBoundKind.{AliasBoundKind}
+use Rattle.ir_trees.specs.declared.decl.contents.AliasBoundKind.TheVariants.{SelfBounds, NonSelfBounds}
+use Rattle.ir_trees.specs.declared.ir.heads.Head.{Head}
+use Rattle.ir_trees.specs.declared.ir.heads.Head.TheVariants as H
+use Rattle.ir_trees.specs.declared.ir.kinds.AliasKind.TheVariants as AK
+use Rattle.ir_trees.specs.declared.ir.kinds.AliasTy.{AliasTy}
+use Rattle.ir_trees.specs.declared.ir.kinds.Args.{Args}
+use Rattle.ir_trees.specs.declared.ir.kinds.ParamEnv.{ParamEnv}
+use Rattle.ir_trees.specs.declared.ir.kinds.Ty.{Ty}
+use Rattle.ir_trees.specs.declared.ir.kinds.TyKind.TheVariants as TK
+use Rattle.ir_trees.specs.declared.ir.stop.Stop.{Stop}
+use Rattle.ir_trees.specs.declared.ir.stop.Stop.TheVariants.{AliasDepth}
+use Rattle.ir_trees.specs.Declarations.Context.{Context, Grows}
+use Rattle.ir_trees.specs.Syntax.Trees.{Tree, binders_of}
+use Rattle.ir_trees.specs.Validity.WellFormed.{IsWellFormedTable}
+use Rattle.ir_trees.specs.Syntax.Words.{IsTy, env_forest, kind_tree, ty_tree}
+use Rattle.ir_trees.proofs.Growth.Kept.{grows-refl, grows-trans}
 use Rattle.candidate_eval.specs.declared.eval.response.Candidate.{Candidate as OfNumbers}
 use Rattle.candidate_eval.specs.Interface.Accounts.{Account, Question}
 use Rattle.candidate_eval.specs.Judges.Alike.{JudgesAlike}

@@ -3,8 +3,8 @@ use Rattle.std.proofs.Common.{◌≡◌, Bool, true, false, not, ◌&&◌, Optio
 use Rattle.std.specs.Prelude.{◌||◌, if◌then◌else◌}
 use Rattle.std.specs.List.{filter, list_all, list_any}
 use Rattle.std.proofs.lemmas.List.Elements.{All-filter}
-use Rattle.candidate_ir.specs.Declarations.Context.{Context}
-use Rattle.candidate_ir.specs.Syntax.Trees.{Tree}
+use Rattle.ir_trees.specs.Declarations.Context.{Context}
+use Rattle.ir_trees.specs.Syntax.Trees.{Tree}
 use Rattle.candidate_eval.specs.declared.eval.mode.TypingMode.{TypingMode}
 use Rattle.candidate_eval.specs.declared.eval.response.Candidate.{Candidate as OfNumbers}
 use Rattle.candidate_eval.specs.declared.eval.source.CandidateSource.{CandidateSource}

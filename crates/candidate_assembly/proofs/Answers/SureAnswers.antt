@@ -3,16 +3,16 @@ use Rattle.std.proofs.Common.{◌≡◌, ℕ, zero, suc, Bool, true, false, not,
 use Rattle.std.specs.Prelude.{All, ◌||◌, IfOk, nat_lt, if◌then◌else◌}
 use Rattle.std.specs.List.{Contains, flat_map}
 use Rattle.std.proofs.lemmas.List.Elements.{All-append, All-cons, All-contains, All-contains_itself, All-head, All-map, All-nil, All-tail, All-weaker}
-use Rattle.candidate_ir.specs.declared.decl.contents.AliasBoundKind.{AliasBoundKind}
-use Rattle.candidate_ir.specs.declared.ir.heads.Head.{Head}
-use Rattle.candidate_ir.specs.Declarations.Context.{Context}
-use Rattle.candidate_ir.specs.Unification.Impls.{blanket_impls, relevant_impls}
-use Rattle.candidate_ir.specs.Instantiation.Opening.{opened}
-use Rattle.candidate_ir.specs.Unification.Substitutions.{alone as just}
-use Rattle.candidate_ir.specs.Hierarchy.Supers.{after_first}
-use Rattle.candidate_ir.specs.declared.ir.stop.Stop.TheVariants.{ConstDepth}
-use Rattle.candidate_ir.specs.Syntax.Trees.{Forest, Kind, TypeKind, ConstantKind, RegionKind, none, tree, Tree, holds, kind_of}
-use Rattle.candidate_ir.specs.Declarations.Worlds.{Reference}
+use Rattle.ir_trees.specs.declared.decl.contents.AliasBoundKind.{AliasBoundKind}
+use Rattle.ir_trees.specs.declared.ir.heads.Head.{Head}
+use Rattle.ir_trees.specs.Declarations.Context.{Context}
+use Rattle.ir_trees.specs.Unification.Impls.{blanket_impls, relevant_impls}
+use Rattle.ir_trees.specs.Instantiation.Opening.{opened}
+use Rattle.ir_trees.specs.Unification.Substitutions.{alone as just}
+use Rattle.ir_trees.specs.Hierarchy.Supers.{after_first}
+use Rattle.ir_trees.specs.declared.ir.stop.Stop.TheVariants.{ConstDepth}
+use Rattle.ir_trees.specs.Syntax.Trees.{Forest, Kind, TypeKind, ConstantKind, RegionKind, none, tree, Tree, holds, kind_of}
+use Rattle.ir_trees.specs.Declarations.Worlds.{Reference}
 use Rattle.candidate_eval.specs.declared.eval.certainty.Certainty.{Certainty}
 use Rattle.candidate_eval.specs.declared.eval.certainty.Certainty.TheVariants.{Yes, Maybe}
 use Rattle.candidate_eval.specs.declared.eval.certainty.MaybeCause.TheVariants.{Ambiguity}

@@ -1,7 +1,7 @@
 -- Why calls stopped, from one call to the next.
 use Rattle.std.proofs.Common.{◌≡◌, ℕ, List, Result, Ok, Err, IfOk, IfErr, ap, ◌∙◌}
-use Rattle.candidate_ir.specs.declared.ir.stop.Stop.{Stop}
-use Rattle.candidate_ir.specs.Declarations.Context.{Context}
+use Rattle.ir_trees.specs.declared.ir.stop.Stop.{Stop}
+use Rattle.ir_trees.specs.Declarations.Context.{Context}
 use Rattle.candidate_eval.specs.declared.eval.refusal.NoSolutionOrStop.{NoSolutionOrStop}
 use Rattle.candidate_eval.specs.declared.eval.refusal.NoSolutionOrStop.TheVariants as N
 use Rattle.candidate_eval.specs.Interface.Accounts.{Account, Question, Reaches, StopsSomehow, by_stop}
@@ -10,7 +10,7 @@ use Rattle.candidate_eval.specs.Interface.Evaluators.{Keeps, KeepsBut}
 use Rattle.candidate_eval.specs.Judges.States.{State}
 use Rattle.candidate_eval.proofs.Interface.Accounts.{accounted-here, by-stop, memory-somehow, reaches, somehow-later, somehow-until, somehow-within}
 use Rattle.candidate_assembly.specs.Answers.Telling.{StopsOfItself}
-use Rattle.candidate_ir.specs.declared.ir.stop.Stop.TheVariants.{Memory}
+use Rattle.ir_trees.specs.declared.ir.stop.Stop.TheVariants.{Memory}
 use Rattle.candidate_eval.specs.Interface.Unmade.{IsUnmade}
 
 module _ {E X : Type 0} {fixed : E → X} {context : E → Context} {state : E → State} {stops : Account E} where

@@ -1,8 +1,8 @@
 -- What a call that considers a rule says, exit by exit.
 use Rattle.std.proofs.Common.{◌≡◌, Bool, true, false, List, Result, Err, IfErr, refl, sym, subst, ap, ◌∙◌}
-use Rattle.candidate_ir.specs.declared.ir.stop.Stop.{Stop}
-use Rattle.candidate_ir.specs.Declarations.Context.{Context, Grows}
-use Rattle.candidate_ir.specs.Syntax.Trees.{Tree}
+use Rattle.ir_trees.specs.declared.ir.stop.Stop.{Stop}
+use Rattle.ir_trees.specs.Declarations.Context.{Context, Grows}
+use Rattle.ir_trees.specs.Syntax.Trees.{Tree}
 use Rattle.candidate_eval.specs.declared.eval.refusal.NoSolutionOrStop.{NoSolutionOrStop}
 use Rattle.candidate_eval.specs.declared.eval.refusal.NoSolutionOrStop.TheVariants as N
 use Rattle.candidate_eval.specs.declared.eval.response.Candidate.{Candidate}
@@ -13,13 +13,13 @@ use Rattle.candidate_eval.specs.Derivations.Judging.{Judged, Refused, judged}
 use Rattle.candidate_eval.specs.Interface.Knowing.{is_evaluator_stop}
 use Rattle.candidate_eval.specs.Derivations.Rules.{Rule}
 use Rattle.candidate_eval.specs.Judges.States.{State, Judge}
-use Rattle.candidate_ir.proofs.Growth.Kept.{grows-refl}
+use Rattle.ir_trees.proofs.Growth.Kept.{grows-refl}
 use Rattle.candidate_eval.proofs.Interface.Accounts.{reaches}
 use Rattle.candidate_eval.proofs.Interface.Probing.{keeps-trans}
 use Rattle.candidate_assembly.specs.Answers.Telling.{Considers, StopsOfItself, Told}
 use Rattle.candidate_assembly.proofs.Calls.Stepping.{evaluator-own, memory-own, unmade-own}
 use Rattle.candidate_assembly.proofs.Calls.Causes.{asked-here, caused, later, made-here, memory-here}
-use Rattle.candidate_ir.specs.declared.ir.stop.Stop.TheVariants.{Memory}
+use Rattle.ir_trees.specs.declared.ir.stop.Stop.TheVariants.{Memory}
 use Rattle.candidate_eval.specs.Interface.Unmade.{IsUnmade}
 
 pub not-both : (b : Bool) → b ≡ true → b ≡ false → ⊥

@@ -1,18 +1,18 @@
 -- What stays while a context grows, in probes and from one call to the next.
 use Rattle.std.proofs.Common.{◌≡◌, true, refl, sym, ap, subst, ◌∙◌, [], ◌∷◌, Some, Result, Ok, Err, IfErr, List}
-use Rattle.candidate_ir.specs.declared.ir.heads.Head.{Head}
-use Rattle.candidate_ir.specs.declared.ir.kinds.Args.{Args}
-use Rattle.candidate_ir.specs.declared.ir.kinds.ParamEnv.{ParamEnv}
-use Rattle.candidate_ir.specs.declared.ir.kinds.TraitPredicate.{TraitPredicate}
-use Rattle.candidate_ir.specs.declared.ir.kinds.Ty.{Ty}
-use Rattle.candidate_ir.specs.declared.ir.stop.Stop.{Stop}
-use Rattle.candidate_ir.specs.Syntax.Binders.{escapes}
-use Rattle.candidate_ir.specs.Declarations.Context.{Context, Grows, world}
-use Rattle.candidate_ir.specs.Declarations.Contents.{Contents}
-use Rattle.candidate_ir.specs.Syntax.Trees.{TypeKind, Forest, Tree, holds, is_param}
-use Rattle.candidate_ir.specs.Syntax.Words.{IsArgs, IsParamEnv, args_forest, env_forest}
-use Rattle.candidate_ir.specs.Declarations.Worlds.{Reference, World, TraitSort, joined, kinds_of, parameters}
-use Rattle.candidate_ir.proofs.Growth.Kept.{args-kept, grows-trans, world-kept}
+use Rattle.ir_trees.specs.declared.ir.heads.Head.{Head}
+use Rattle.ir_trees.specs.declared.ir.kinds.Args.{Args}
+use Rattle.ir_trees.specs.declared.ir.kinds.ParamEnv.{ParamEnv}
+use Rattle.ir_trees.specs.declared.ir.kinds.TraitPredicate.{TraitPredicate}
+use Rattle.ir_trees.specs.declared.ir.kinds.Ty.{Ty}
+use Rattle.ir_trees.specs.declared.ir.stop.Stop.{Stop}
+use Rattle.ir_trees.specs.Syntax.Binders.{escapes}
+use Rattle.ir_trees.specs.Declarations.Context.{Context, Grows, world}
+use Rattle.ir_trees.specs.Declarations.Contents.{Contents}
+use Rattle.ir_trees.specs.Syntax.Trees.{TypeKind, Forest, Tree, holds, is_param}
+use Rattle.ir_trees.specs.Syntax.Words.{IsArgs, IsParamEnv, args_forest, env_forest}
+use Rattle.ir_trees.specs.Declarations.Worlds.{Reference, World, TraitSort, joined, kinds_of, parameters}
+use Rattle.ir_trees.proofs.Growth.Kept.{args-kept, grows-trans, world-kept}
 use Rattle.candidate_eval.specs.declared.eval.certainty.Certainty.{Certainty}
 use Rattle.candidate_eval.specs.declared.eval.refusal.NoSolutionOrStop.{NoSolutionOrStop}
 use Rattle.candidate_eval.specs.declared.eval.response.Candidate.{Candidate}

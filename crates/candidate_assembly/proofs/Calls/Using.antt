@@ -1,7 +1,7 @@
 -- What is told of an answer stays so, whatever its candidate has used.
 use Rattle.std.proofs.Common.{◌≡◌, List, Result, Ok, Err, IfErr, refl, sym, subst}
-use Rattle.candidate_ir.specs.Declarations.Context.{Context}
-use Rattle.candidate_ir.specs.Syntax.Trees.{Tree}
+use Rattle.ir_trees.specs.Declarations.Context.{Context}
+use Rattle.ir_trees.specs.Syntax.Trees.{Tree}
 use Rattle.candidate_eval.specs.declared.eval.refusal.NoSolutionOrStop.{NoSolutionOrStop}
 use Rattle.candidate_eval.specs.declared.eval.refusal.NoSolutionOrStop.TheVariants as N
 use Rattle.candidate_eval.specs.declared.eval.response.Candidate.{Candidate}

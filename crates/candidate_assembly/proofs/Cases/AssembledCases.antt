@@ -1,23 +1,23 @@
 -- Lists on the small judge: what opaque types give, which rule a trait has, and what shadows impls.
 use Rattle.std.proofs.Common.{◌≡◌, refl, ℕ, Bool, true, false, [], ◌∷◌, Some, None}
-use Rattle.candidate_ir.specs.declared.decl.contents.AliasBoundKind.TheVariants.{SelfBounds}
-use Rattle.candidate_ir.specs.declared.decl.contents.ImplPolarity.{ImplPolarity}
-use Rattle.candidate_ir.specs.declared.decl.contents.ImplPolarity.TheVariants as I
-use Rattle.candidate_ir.specs.declared.decl.contents.Sizedness.TheVariants as S
-use Rattle.candidate_ir.specs.declared.decl.definition.DefinitionKind.TheVariants as D
-use Rattle.candidate_ir.specs.declared.decl.definition.TraitFlags.{TraitFlags}
-use Rattle.candidate_ir.specs.declared.ir.heads.Head.TheVariants as H
-use Rattle.candidate_ir.specs.declared.ir.heads.ListHead.TheVariants as L
-use Rattle.candidate_ir.specs.declared.ir.kinds.AliasKind.TheVariants as AK
-use Rattle.candidate_ir.specs.declared.ir.kinds.PredicatePolarity.TheVariants as Pol
-use Rattle.candidate_ir.specs.declared.ir.kinds.VarKind.TheVariants as K
-use Rattle.candidate_ir.specs.Declarations.Context.{Context}
-use Rattle.candidate_ir.specs.Declarations.Limits.{first_limits}
-use Rattle.candidate_ir.specs.Declarations.Contents.{Impl}
-use Rattle.candidate_ir.specs.Declarations.Declaration.{Declaration}
-use Rattle.candidate_ir.specs.Declarations.Declaring.{nothing}
-use Rattle.candidate_ir.specs.Unification.Substitutions.{alone}
-use Rattle.candidate_ir.specs.Syntax.Trees.{none, Tree}
+use Rattle.ir_trees.specs.declared.decl.contents.AliasBoundKind.TheVariants.{SelfBounds}
+use Rattle.ir_trees.specs.declared.decl.contents.ImplPolarity.{ImplPolarity}
+use Rattle.ir_trees.specs.declared.decl.contents.ImplPolarity.TheVariants as I
+use Rattle.ir_trees.specs.declared.decl.contents.Sizedness.TheVariants as S
+use Rattle.ir_trees.specs.declared.decl.definition.DefinitionKind.TheVariants as D
+use Rattle.ir_trees.specs.declared.decl.definition.TraitFlags.{TraitFlags}
+use Rattle.ir_trees.specs.declared.ir.heads.Head.TheVariants as H
+use Rattle.ir_trees.specs.declared.ir.heads.ListHead.TheVariants as L
+use Rattle.ir_trees.specs.declared.ir.kinds.AliasKind.TheVariants as AK
+use Rattle.ir_trees.specs.declared.ir.kinds.PredicatePolarity.TheVariants as Pol
+use Rattle.ir_trees.specs.declared.ir.kinds.VarKind.TheVariants as K
+use Rattle.ir_trees.specs.Declarations.Context.{Context}
+use Rattle.ir_trees.specs.Declarations.Limits.{first_limits}
+use Rattle.ir_trees.specs.Declarations.Contents.{Impl}
+use Rattle.ir_trees.specs.Declarations.Declaration.{Declaration}
+use Rattle.ir_trees.specs.Declarations.Declaring.{nothing}
+use Rattle.ir_trees.specs.Unification.Substitutions.{alone}
+use Rattle.ir_trees.specs.Syntax.Trees.{none, Tree}
 use Rattle.candidate_eval.specs.declared.eval.mode.TypingMode.{TypingMode}
 use Rattle.candidate_eval.specs.declared.eval.mode.TypingMode.TheVariants.{Analysis, Coherence, PostAnalysis}
 use Rattle.candidate_eval.specs.declared.eval.certainty.Certainty.TheVariants.{Yes, Maybe}

@@ -1,34 +1,34 @@
 -- The rules of the language worked out on the small judge, over a few declarations: what each gives a candidate for, and what it refuses.
 use Rattle.std.proofs.Common.{◌≡◌, refl, ℕ, List, [], ◌∷◌, true, false, Option, Some, None}
-use Rattle.candidate_ir.specs.declared.decl.contents.ImplPolarity.{ImplPolarity}
-use Rattle.candidate_ir.specs.declared.decl.contents.ImplPolarity.TheVariants as I
-use Rattle.candidate_ir.specs.declared.decl.contents.Sizedness.TheVariants as Z
-use Rattle.candidate_ir.specs.declared.decl.definition.AdtFlags.{AdtFlags}
-use Rattle.candidate_ir.specs.declared.decl.definition.AdtShape.TheVariants as Shape
-use Rattle.candidate_ir.specs.declared.decl.definition.DefinitionKind.{DefinitionKind}
-use Rattle.candidate_ir.specs.declared.decl.definition.DefinitionKind.TheVariants as D
-use Rattle.candidate_ir.specs.declared.decl.definition.TraitFlags.{TraitFlags}
-use Rattle.candidate_ir.specs.declared.ir.heads.Builtin.TheVariants as B
-use Rattle.candidate_ir.specs.declared.ir.heads.Head.TheVariants as H
-use Rattle.candidate_ir.specs.declared.ir.heads.ListHead.TheVariants as Li
-use Rattle.candidate_ir.specs.declared.ir.heads.PartHead.TheVariants as P
-use Rattle.candidate_ir.specs.declared.ir.heads.Signature.{Signature}
-use Rattle.candidate_ir.specs.declared.ir.heads.VariableSort.TheVariants as V
-use Rattle.candidate_ir.specs.declared.ir.kinds.AliasKind.TheVariants as AK
-use Rattle.candidate_ir.specs.declared.ir.kinds.Binder.{Binder}
-use Rattle.candidate_ir.specs.declared.ir.kinds.ClosureKind.{ClosureKind}
-use Rattle.candidate_ir.specs.declared.ir.kinds.ClosureKind.TheVariants as K
-use Rattle.candidate_ir.specs.declared.ir.kinds.FnSig.{FnSig}
-use Rattle.candidate_ir.specs.declared.ir.kinds.Mutability.TheVariants as Mut
-use Rattle.candidate_ir.specs.declared.ir.kinds.PredicatePolarity.{PredicatePolarity}
-use Rattle.candidate_ir.specs.declared.ir.kinds.PredicatePolarity.TheVariants as Pol
-use Rattle.candidate_ir.specs.declared.ir.kinds.RegionKind.TheVariants as R
-use Rattle.candidate_ir.specs.Declarations.Context.{Context}
-use Rattle.candidate_ir.specs.Declarations.Limits.{first_limits}
-use Rattle.candidate_ir.specs.Declarations.Declaration.{Declaration}
-use Rattle.candidate_ir.specs.Instantiation.Folding.{leaf}
-use Rattle.candidate_ir.specs.Unification.Substitutions.{alone}
-use Rattle.candidate_ir.specs.Syntax.Trees.{Forest, none, tree, Tree}
+use Rattle.ir_trees.specs.declared.decl.contents.ImplPolarity.{ImplPolarity}
+use Rattle.ir_trees.specs.declared.decl.contents.ImplPolarity.TheVariants as I
+use Rattle.ir_trees.specs.declared.decl.contents.Sizedness.TheVariants as Z
+use Rattle.ir_trees.specs.declared.decl.definition.AdtFlags.{AdtFlags}
+use Rattle.ir_trees.specs.declared.decl.definition.AdtShape.TheVariants as Shape
+use Rattle.ir_trees.specs.declared.decl.definition.DefinitionKind.{DefinitionKind}
+use Rattle.ir_trees.specs.declared.decl.definition.DefinitionKind.TheVariants as D
+use Rattle.ir_trees.specs.declared.decl.definition.TraitFlags.{TraitFlags}
+use Rattle.ir_trees.specs.declared.ir.heads.Builtin.TheVariants as B
+use Rattle.ir_trees.specs.declared.ir.heads.Head.TheVariants as H
+use Rattle.ir_trees.specs.declared.ir.heads.ListHead.TheVariants as Li
+use Rattle.ir_trees.specs.declared.ir.heads.PartHead.TheVariants as P
+use Rattle.ir_trees.specs.declared.ir.heads.Signature.{Signature}
+use Rattle.ir_trees.specs.declared.ir.heads.VariableSort.TheVariants as V
+use Rattle.ir_trees.specs.declared.ir.kinds.AliasKind.TheVariants as AK
+use Rattle.ir_trees.specs.declared.ir.kinds.Binder.{Binder}
+use Rattle.ir_trees.specs.declared.ir.kinds.ClosureKind.{ClosureKind}
+use Rattle.ir_trees.specs.declared.ir.kinds.ClosureKind.TheVariants as K
+use Rattle.ir_trees.specs.declared.ir.kinds.FnSig.{FnSig}
+use Rattle.ir_trees.specs.declared.ir.kinds.Mutability.TheVariants as Mut
+use Rattle.ir_trees.specs.declared.ir.kinds.PredicatePolarity.{PredicatePolarity}
+use Rattle.ir_trees.specs.declared.ir.kinds.PredicatePolarity.TheVariants as Pol
+use Rattle.ir_trees.specs.declared.ir.kinds.RegionKind.TheVariants as R
+use Rattle.ir_trees.specs.Declarations.Context.{Context}
+use Rattle.ir_trees.specs.Declarations.Limits.{first_limits}
+use Rattle.ir_trees.specs.Declarations.Declaration.{Declaration}
+use Rattle.ir_trees.specs.Instantiation.Folding.{leaf}
+use Rattle.ir_trees.specs.Unification.Substitutions.{alone}
+use Rattle.ir_trees.specs.Syntax.Trees.{Forest, none, tree, Tree}
 use Rattle.candidate_eval.specs.declared.eval.certainty.Certainty.TheVariants.{Yes}
 use Rattle.candidate_eval.specs.declared.eval.mode.TypingMode.{TypingMode}
 use Rattle.candidate_eval.specs.declared.eval.mode.TypingMode.TheVariants.{Coherence, PostAnalysis}

@@ -1,15 +1,15 @@
 -- Clauses characterised on the small judge, with the limits that are declared where none is set.
 use Rattle.std.proofs.Common.{◌≡◌, refl, [], Option, Some}
-use Rattle.candidate_ir.specs.declared.ir.heads.Head.TheVariants as H
-use Rattle.candidate_ir.specs.declared.ir.heads.Builtin.TheVariants as B
-use Rattle.candidate_ir.specs.declared.ir.heads.PartHead.TheVariants as P
-use Rattle.candidate_ir.specs.declared.ir.heads.PredHead.TheVariants as PH
-use Rattle.candidate_ir.specs.declared.ir.kinds.RegionKind.TheVariants as R
-use Rattle.candidate_ir.specs.declared.ir.kinds.VarKind.TheVariants as K
-use Rattle.candidate_ir.specs.Declarations.Limits.{first_limits}
-use Rattle.candidate_ir.specs.Instantiation.Folding.{leaf}
-use Rattle.candidate_ir.specs.Unification.Substitutions.{alone}
-use Rattle.candidate_ir.specs.Syntax.Trees.{none, tree, Tree}
+use Rattle.ir_trees.specs.declared.ir.heads.Head.TheVariants as H
+use Rattle.ir_trees.specs.declared.ir.heads.Builtin.TheVariants as B
+use Rattle.ir_trees.specs.declared.ir.heads.PartHead.TheVariants as P
+use Rattle.ir_trees.specs.declared.ir.heads.PredHead.TheVariants as PH
+use Rattle.ir_trees.specs.declared.ir.kinds.RegionKind.TheVariants as R
+use Rattle.ir_trees.specs.declared.ir.kinds.VarKind.TheVariants as K
+use Rattle.ir_trees.specs.Declarations.Limits.{first_limits}
+use Rattle.ir_trees.specs.Instantiation.Folding.{leaf}
+use Rattle.ir_trees.specs.Unification.Substitutions.{alone}
+use Rattle.ir_trees.specs.Syntax.Trees.{none, tree, Tree}
 use Rattle.candidate_eval.specs.declared.eval.certainty.Certainty.{Certainty}
 use Rattle.candidate_eval.specs.declared.eval.certainty.Certainty.TheVariants.{Yes}
 use Rattle.candidate_eval.specs.declared.eval.mode.TypingMode.TheVariants.{PostAnalysis}

@@ -1,6 +1,6 @@
 -- What worked cases tell of a list of answers: each candidate's source and how sure it is.
 use Rattle.std.proofs.Common.{List, map}
-use Rattle.candidate_ir.specs.declared.ir.stop.Stop.{Stop}
+use Rattle.ir_trees.specs.declared.ir.stop.Stop.{Stop}
 use Rattle.candidate_eval.specs.declared.eval.certainty.Certainty.{Certainty}
 use Rattle.candidate_eval.specs.declared.eval.source.CandidateSource.{CandidateSource}
 use Rattle.candidate_eval.specs.Outcomes.Responses.{Candidate}

@@ -2,15 +2,15 @@
 use Rattle.std.proofs.Common.{◌≡◌, ◌+◌, true, false, Option, Some, None, refl, sym, ap, ◌∙◌, arith}
 use Rattle.std.proofs.lemmas.Bool.{leb-false}
 use Rattle.std.specs.Option.{unwrap_or}
-use Rattle.candidate_ir.specs.declared.ir.heads.Head.{Head}
-use Rattle.candidate_ir.specs.declared.ir.heads.Head.TheVariants as H
-use Rattle.candidate_ir.specs.declared.ir.kinds.RegionKind.TheVariants as R
-use Rattle.candidate_ir.specs.declared.ir.heads.VariableSort.{VariableSort}
-use Rattle.candidate_ir.specs.declared.ir.heads.VariableSort.TheVariants as V
-use Rattle.candidate_ir.specs.Syntax.Binders.{is_beyond}
-use Rattle.candidate_ir.specs.Instantiation.Folding.{fold}
-use Rattle.candidate_ir.specs.Unification.Substitutions.{alone, fits_sort, is_float, is_integer, same_sort}
-use Rattle.candidate_ir.specs.Syntax.Trees.{TypeKind, none, Tree, binders_of, kind_of, sort_kind}
+use Rattle.ir_trees.specs.declared.ir.heads.Head.{Head}
+use Rattle.ir_trees.specs.declared.ir.heads.Head.TheVariants as H
+use Rattle.ir_trees.specs.declared.ir.kinds.RegionKind.TheVariants as R
+use Rattle.ir_trees.specs.declared.ir.heads.VariableSort.{VariableSort}
+use Rattle.ir_trees.specs.declared.ir.heads.VariableSort.TheVariants as V
+use Rattle.ir_trees.specs.Syntax.Binders.{is_beyond}
+use Rattle.ir_trees.specs.Instantiation.Folding.{fold}
+use Rattle.ir_trees.specs.Unification.Substitutions.{alone, fits_sort, is_float, is_integer, same_sort}
+use Rattle.ir_trees.specs.Syntax.Trees.{TypeKind, none, Tree, binders_of, kind_of, sort_kind}
 use Rattle.candidate_eval.specs.declared.eval.variable.VariableKind.{VariableKind}
 use Rattle.candidate_eval.specs.declared.eval.variable.VariableKind.TheVariants.{Term}
 use Rattle.candidate_eval.specs.Judges.Alike.{info}

@@ -1,17 +1,17 @@
 -- Clauses that a trait holds of something, or doesn't.
 use Rattle.std.proofs.Common.{◌≡◌, List, [], ◌∷◌, Some, refl, sym, ap, subst, ◌∙◌}
-use Rattle.candidate_ir.specs.declared.ir.kinds.TraitPredicate.{TraitPredicate}
-use Rattle.candidate_ir.specs.declared.ir.kinds.TraitRef.{TraitRef}
-use Rattle.candidate_ir.specs.declared.ir.kinds.Vars.{Vars}
-use Rattle.candidate_ir.specs.Declarations.Context.{Context, Grows, world}
-use Rattle.candidate_ir.specs.Syntax.Nodes.{kind_at}
-use Rattle.candidate_ir.specs.Declarations.References.{ArgumentsFit, Takes}
-use Rattle.candidate_ir.specs.Syntax.Trees.{TypeKind, ArgumentsKind, BinderKind, Forest, none, Tree}
-use Rattle.candidate_ir.specs.Syntax.Words.{ClauseFits, IsArgs, IsVars, args_forest, binder_tree, clause_kind_tree, vars_tree}
-use Rattle.candidate_ir.specs.Declarations.Worlds.{World, TraitSort, joined, kinds_of, parameters}
-use Rattle.candidate_ir.proofs.Instantiation.Joining.{clause-over}
-use Rattle.candidate_ir.proofs.Growth.Kept.{args-kept, world-kept}
-use Rattle.candidate_ir.proofs.Syntax.Rows.{join-none, row-list}
+use Rattle.ir_trees.specs.declared.ir.kinds.TraitPredicate.{TraitPredicate}
+use Rattle.ir_trees.specs.declared.ir.kinds.TraitRef.{TraitRef}
+use Rattle.ir_trees.specs.declared.ir.kinds.Vars.{Vars}
+use Rattle.ir_trees.specs.Declarations.Context.{Context, Grows, world}
+use Rattle.ir_trees.specs.Syntax.Nodes.{kind_at}
+use Rattle.ir_trees.specs.Declarations.References.{ArgumentsFit, Takes}
+use Rattle.ir_trees.specs.Syntax.Trees.{TypeKind, ArgumentsKind, BinderKind, Forest, none, Tree}
+use Rattle.ir_trees.specs.Syntax.Words.{ClauseFits, IsArgs, IsVars, args_forest, binder_tree, clause_kind_tree, vars_tree}
+use Rattle.ir_trees.specs.Declarations.Worlds.{World, TraitSort, joined, kinds_of, parameters}
+use Rattle.ir_folds.proofs.Instantiation.Joining.{clause-over}
+use Rattle.ir_trees.proofs.Growth.Kept.{args-kept, world-kept}
+use Rattle.ir_trees.proofs.Syntax.Rows.{join-none, row-list}
 use Rattle.candidate_eval.specs.Dynamic.ObjectRequirements.{trait_fact}
 use Rattle.candidate_assembly.specs.Rules.BuiltinRules.{holds_of, said_of_type}
 use Rattle.candidate_assembly.specs.Goals.TraitGoals.{with_first}

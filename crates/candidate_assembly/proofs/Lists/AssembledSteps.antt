@@ -2,22 +2,22 @@
 use Rattle.std.proofs.Common.{◌≡◌, ℕ, Bool, refl, sym, ap, subst, ◌∙◌, true, false, length, None, Some, List, [], ◌∷◌, Result, Ok, Err, Vec, Global}
 use Rattle.std.specs.Prelude.{IfErr, IfOk}
 use Rattle.std.proofs.lemmas.List.Elements.{All-cons, All-nil}
-use Rattle.candidate_ir.specs.declared.ir.kinds.Args.{Args}
-use Rattle.candidate_ir.specs.declared.ir.kinds.ParamEnv.{ParamEnv}
-use Rattle.candidate_ir.specs.declared.ir.kinds.Ty.{Ty}
-use Rattle.candidate_ir.specs.declared.ir.kinds.TyKind.{TyKind}
-use Rattle.candidate_ir.specs.declared.ir.stop.Stop.{Stop}
-use Rattle.candidate_ir.specs.declared.ir.stop.Stop.TheVariants.{Memory}
-use Rattle.candidate_ir.specs.Declarations.Context.{Context, Grows}
-use Rattle.candidate_ir.specs.Syntax.Binders.{escapes}
-use Rattle.candidate_ir.specs.Unification.Substitutions.{alone}
-use Rattle.candidate_ir.specs.Syntax.Trees.{Tree, TypeKind, holds, is_param, kind_of}
-use Rattle.candidate_ir.specs.Syntax.Kinds.{is_general_variable}
-use Rattle.candidate_ir.specs.Validity.WellFormed.{IsWellFormedTable}
-use Rattle.candidate_ir.specs.Syntax.Words.{IsTy, kind_tree, ty_tree}
-use Rattle.candidate_ir.specs.Declarations.Worlds.{Reference, kinds_of}
-use Rattle.candidate_ir.proofs.Instantiation.Folding.{begin}
-use Rattle.candidate_ir.proofs.Growth.Kept.{grows-trans, ty-kept}
+use Rattle.ir_trees.specs.declared.ir.kinds.Args.{Args}
+use Rattle.ir_trees.specs.declared.ir.kinds.ParamEnv.{ParamEnv}
+use Rattle.ir_trees.specs.declared.ir.kinds.Ty.{Ty}
+use Rattle.ir_trees.specs.declared.ir.kinds.TyKind.{TyKind}
+use Rattle.ir_trees.specs.declared.ir.stop.Stop.{Stop}
+use Rattle.ir_trees.specs.declared.ir.stop.Stop.TheVariants.{Memory}
+use Rattle.ir_trees.specs.Declarations.Context.{Context, Grows}
+use Rattle.ir_trees.specs.Syntax.Binders.{escapes}
+use Rattle.ir_trees.specs.Unification.Substitutions.{alone}
+use Rattle.ir_trees.specs.Syntax.Trees.{Tree, TypeKind, holds, is_param, kind_of}
+use Rattle.ir_trees.specs.Syntax.Kinds.{is_general_variable}
+use Rattle.ir_trees.specs.Validity.WellFormed.{IsWellFormedTable}
+use Rattle.ir_trees.specs.Syntax.Words.{IsTy, kind_tree, ty_tree}
+use Rattle.ir_trees.specs.Declarations.Worlds.{Reference, kinds_of}
+use Rattle.ir_trees.proofs.Instantiation.Folding.{begin}
+use Rattle.ir_trees.proofs.Growth.Kept.{grows-trans, ty-kept}
 use Rattle.candidate_eval.specs.declared.eval.refusal.NoSolutionOrStop.TheVariants as N
 use Rattle.candidate_eval.specs.declared.eval.response.Candidate.{Candidate as OfNumbers}
 use Rattle.candidate_eval.specs.Interface.Accounts.{Account, Question, StopsSomehow}

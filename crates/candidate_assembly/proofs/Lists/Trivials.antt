@@ -4,10 +4,10 @@ use Rattle.std.proofs.Common.{◌≡◌, ◌+◌, arith, refl, ap, subst, sym, �
 use Rattle.std.specs.Prelude.{cond, not, if◌then◌else◌}
 use Rattle.std.specs.List.{count_by, filter, flat_map}
 use Rattle.std.proofs.lemmas.List.Sums.{count_by-le-length, sum_by-append}
-use Rattle.candidate_ir.specs.declared.decl.contents.AliasBoundKind.{AliasBoundKind}
-use Rattle.candidate_ir.specs.Declarations.Context.{Context}
-use Rattle.candidate_ir.specs.Unification.Impls.{blanket_impls, relevant_impls}
-use Rattle.candidate_ir.specs.Syntax.Trees.{Tree}
+use Rattle.ir_trees.specs.declared.decl.contents.AliasBoundKind.{AliasBoundKind}
+use Rattle.ir_trees.specs.Declarations.Context.{Context}
+use Rattle.ir_trees.specs.Unification.Impls.{blanket_impls, relevant_impls}
+use Rattle.ir_trees.specs.Syntax.Trees.{Tree}
 use Rattle.candidate_eval.specs.declared.eval.source.CandidateSource.{CandidateSource}
 use Rattle.candidate_eval.specs.declared.eval.source.CandidateSource.TheVariants as Source
 use Rattle.candidate_eval.specs.declared.eval.source.ParamEnvSource.TheVariants.{NonGlobal, Global}

@@ -1,43 +1,43 @@
 -- The bounds of `dyn` types, and what each says of a type as a clause.
 use Rattle.std.proofs.Common.{◌≡◌, Bool, false, true, List, [], ◌∷◌, Option, Some, None, refl, sym, ap, subst, ◌∙◌}
 use Rattle.std.specs.List.{filter}
-use Rattle.candidate_ir.specs.declared.ir.heads.Head.{Head}
-use Rattle.candidate_ir.specs.declared.ir.heads.Head.TheVariants as H
-use Rattle.candidate_ir.specs.declared.ir.heads.PartHead.TheVariants as P
-use Rattle.candidate_ir.specs.declared.ir.heads.PredHead.{PredHead}
-use Rattle.candidate_ir.specs.declared.ir.heads.PredHead.TheVariants as PH
-use Rattle.candidate_ir.specs.declared.ir.kinds.Args.{Args}
-use Rattle.candidate_ir.specs.declared.ir.kinds.Binder.{Binder}
-use Rattle.candidate_ir.specs.declared.ir.kinds.ClauseKind.{ClauseKind}
-use Rattle.candidate_ir.specs.declared.ir.kinds.ExistentialPredicate.{ExistentialPredicate}
-use Rattle.candidate_ir.specs.declared.ir.kinds.ExistentialPredicate.TheVariants as E
-use Rattle.candidate_ir.specs.declared.ir.kinds.ExistentialTraitRef.{ExistentialTraitRef}
-use Rattle.candidate_ir.specs.declared.ir.kinds.GenericArg.{GenericArg}
-use Rattle.candidate_ir.specs.declared.ir.kinds.GenericArg.TheVariants as G
-use Rattle.candidate_ir.specs.declared.ir.kinds.PredicatePolarity.TheVariants as Pol
-use Rattle.candidate_ir.specs.declared.ir.kinds.Pred.{Pred}
-use Rattle.candidate_ir.specs.declared.ir.kinds.Preds.{Preds}
-use Rattle.candidate_ir.specs.declared.ir.kinds.Region.{Region}
-use Rattle.candidate_ir.specs.declared.ir.kinds.TraitId.{TraitId}
-use Rattle.candidate_ir.specs.declared.ir.kinds.TraitPredicate.{TraitPredicate}
-use Rattle.candidate_ir.specs.declared.ir.kinds.Ty.{Ty}
-use Rattle.candidate_ir.specs.declared.ir.kinds.TyKind.TheVariants as K
-use Rattle.candidate_ir.specs.declared.ir.kinds.Vars.{Vars}
-use Rattle.candidate_ir.specs.Declarations.Context.{Context, Grows, world}
-use Rattle.candidate_ir.specs.Declarations.Names.{principal_of}
-use Rattle.candidate_ir.specs.Syntax.Nodes.{kind_at, tree_at}
-use Rattle.candidate_ir.specs.Declarations.References.{ArgumentsFit, FitsAmong, IsWellFormed, Takes}
-use Rattle.candidate_ir.specs.Unification.Substitutions.{alone}
-use Rattle.candidate_ir.specs.Hierarchy.Supers.{after_first}
-use Rattle.candidate_ir.specs.Hierarchy.Elaboration.{first_children}
-use Rattle.candidate_ir.specs.Syntax.Trees.{Kind, TypeKind, RegionKind, BinderKind, ArgumentsKind, PredicatesKind, Forest, none, tree, Tree, holds, is_param, join, kind_of, tree_holds}
-use Rattle.candidate_ir.specs.Syntax.Words.{ClauseFits, IsArgs, IsTy, IsVars, KindFits, PredFits, args_forest, clause_kind_tree, kind_tree, list_forest, pred_kind_tree, pred_tree, preds_forest, region_tree, ty_tree, vars_tree}
-use Rattle.candidate_ir.specs.Declarations.Worlds.{World, TraitSort, joined, kinds_of, parameters}
-use Rattle.candidate_ir.proofs.Instantiation.Folding.{or-left, or-right}
-use Rattle.candidate_ir.proofs.Growth.Kept.{world-kept}
-use Rattle.candidate_ir.proofs.Hierarchy.Listing.{vars_kept}
-use Rattle.candidate_ir.proofs.Kinding.References.{fit-at}
-use Rattle.candidate_ir.proofs.Syntax.Rows.{join-none, kind-of, row-list, row-single}
+use Rattle.ir_trees.specs.declared.ir.heads.Head.{Head}
+use Rattle.ir_trees.specs.declared.ir.heads.Head.TheVariants as H
+use Rattle.ir_trees.specs.declared.ir.heads.PartHead.TheVariants as P
+use Rattle.ir_trees.specs.declared.ir.heads.PredHead.{PredHead}
+use Rattle.ir_trees.specs.declared.ir.heads.PredHead.TheVariants as PH
+use Rattle.ir_trees.specs.declared.ir.kinds.Args.{Args}
+use Rattle.ir_trees.specs.declared.ir.kinds.Binder.{Binder}
+use Rattle.ir_trees.specs.declared.ir.kinds.ClauseKind.{ClauseKind}
+use Rattle.ir_trees.specs.declared.ir.kinds.ExistentialPredicate.{ExistentialPredicate}
+use Rattle.ir_trees.specs.declared.ir.kinds.ExistentialPredicate.TheVariants as E
+use Rattle.ir_trees.specs.declared.ir.kinds.ExistentialTraitRef.{ExistentialTraitRef}
+use Rattle.ir_trees.specs.declared.ir.kinds.GenericArg.{GenericArg}
+use Rattle.ir_trees.specs.declared.ir.kinds.GenericArg.TheVariants as G
+use Rattle.ir_trees.specs.declared.ir.kinds.PredicatePolarity.TheVariants as Pol
+use Rattle.ir_trees.specs.declared.ir.kinds.Pred.{Pred}
+use Rattle.ir_trees.specs.declared.ir.kinds.Preds.{Preds}
+use Rattle.ir_trees.specs.declared.ir.kinds.Region.{Region}
+use Rattle.ir_trees.specs.declared.ir.kinds.TraitId.{TraitId}
+use Rattle.ir_trees.specs.declared.ir.kinds.TraitPredicate.{TraitPredicate}
+use Rattle.ir_trees.specs.declared.ir.kinds.Ty.{Ty}
+use Rattle.ir_trees.specs.declared.ir.kinds.TyKind.TheVariants as K
+use Rattle.ir_trees.specs.declared.ir.kinds.Vars.{Vars}
+use Rattle.ir_trees.specs.Declarations.Context.{Context, Grows, world}
+use Rattle.ir_trees.specs.Declarations.Names.{principal_of}
+use Rattle.ir_trees.specs.Syntax.Nodes.{kind_at, tree_at}
+use Rattle.ir_trees.specs.Declarations.References.{ArgumentsFit, FitsAmong, IsWellFormed, Takes}
+use Rattle.ir_trees.specs.Unification.Substitutions.{alone}
+use Rattle.ir_trees.specs.Hierarchy.Supers.{after_first}
+use Rattle.ir_trees.specs.Hierarchy.Elaboration.{first_children}
+use Rattle.ir_trees.specs.Syntax.Trees.{Kind, TypeKind, RegionKind, BinderKind, ArgumentsKind, PredicatesKind, Forest, none, tree, Tree, holds, is_param, join, kind_of, tree_holds}
+use Rattle.ir_trees.specs.Syntax.Words.{ClauseFits, IsArgs, IsTy, IsVars, KindFits, PredFits, args_forest, clause_kind_tree, kind_tree, list_forest, pred_kind_tree, pred_tree, preds_forest, region_tree, ty_tree, vars_tree}
+use Rattle.ir_trees.specs.Declarations.Worlds.{World, TraitSort, joined, kinds_of, parameters}
+use Rattle.ir_trees.proofs.Instantiation.Folding.{or-left, or-right}
+use Rattle.ir_trees.proofs.Growth.Kept.{world-kept}
+use Rattle.ir_context.proofs.Hierarchy.Listing.{vars_kept}
+use Rattle.ir_trees.proofs.Kinding.References.{fit-at}
+use Rattle.ir_trees.proofs.Syntax.Rows.{join-none, kind-of, row-list, row-single}
 use Rattle.candidate_eval.specs.Builtins.Callable.{all_but_last, last_tree}
 use Rattle.candidate_eval.specs.Dynamic.ObjectRequirements.{trait_fact}
 use Rattle.candidate_eval.specs.Dynamic.Required.{each_of}

@@ -2,30 +2,30 @@
 use Rattle.std.proofs.Common.{◌≡◌, Bool, false, Option, Some, None, List, [], ◌∷◌, ◌++◌, map, refl, ap}
 use Rattle.std.specs.Prelude.{◌||◌}
 use Rattle.std.proofs.lemmas.List.Elements.{All-cons, All-nil}
-use Rattle.candidate_ir.specs.declared.ir.heads.Builtin.TheVariants as B
-use Rattle.candidate_ir.specs.declared.ir.heads.Head.{Head}
-use Rattle.candidate_ir.specs.declared.ir.heads.Head.TheVariants as H
-use Rattle.candidate_ir.specs.declared.ir.heads.ListHead.{ListHead}
-use Rattle.candidate_ir.specs.declared.ir.heads.ListHead.TheVariants as LH
-use Rattle.candidate_ir.specs.declared.ir.heads.PartHead.{PartHead}
-use Rattle.candidate_ir.specs.declared.ir.heads.PartHead.TheVariants as P
-use Rattle.candidate_ir.specs.declared.ir.heads.VariableSort.{VariableSort}
-use Rattle.candidate_ir.specs.declared.ir.heads.VariableSort.TheVariants as V
-use Rattle.candidate_ir.specs.declared.ir.kinds.Clause.{Clause}
-use Rattle.candidate_ir.specs.Declarations.Context.{Context, world}
-use Rattle.candidate_ir.specs.Hierarchy.Elaboration.{Elaborates, IsElaboration, SuperClauses, ended, implied, implied_by, renumbered, step, supers_if, under_binder, unlisted, variables_of}
-use Rattle.candidate_ir.specs.Instantiation.Folding.{substituted}
-use Rattle.candidate_ir.specs.Syntax.Nodes.{kind_at}
-use Rattle.candidate_ir.specs.Declarations.References.{FitsAmong}
-use Rattle.candidate_ir.specs.Hierarchy.Supertraits.{head_trait}
-use Rattle.candidate_ir.specs.Syntax.Trees.{Kind, BinderKind, ClauseKind, VariableKind, Forest, none, tree, Tree, count, holds, is_param, kind_of, list_kind, sort_kind, tree_holds}
-use Rattle.candidate_ir.specs.Validity.WellFormed.{IsWellFormedTable}
-use Rattle.candidate_ir.specs.Syntax.Words.{ClauseListFits, clause_tree}
-use Rattle.candidate_ir.specs.Declarations.Worlds.{Fits, World, all_of, child_kinds, clause_kinds, joined, kinds_of}
-use Rattle.candidate_ir.proofs.Instantiation.Folding.{or-right}
-use Rattle.candidate_ir.proofs.Instantiation.Owned.{or-none}
-use Rattle.candidate_ir.proofs.Kinding.References.{fit-at}
-use Rattle.candidate_ir.proofs.Syntax.Rows.{kind-of}
+use Rattle.ir_trees.specs.declared.ir.heads.Builtin.TheVariants as B
+use Rattle.ir_trees.specs.declared.ir.heads.Head.{Head}
+use Rattle.ir_trees.specs.declared.ir.heads.Head.TheVariants as H
+use Rattle.ir_trees.specs.declared.ir.heads.ListHead.{ListHead}
+use Rattle.ir_trees.specs.declared.ir.heads.ListHead.TheVariants as LH
+use Rattle.ir_trees.specs.declared.ir.heads.PartHead.{PartHead}
+use Rattle.ir_trees.specs.declared.ir.heads.PartHead.TheVariants as P
+use Rattle.ir_trees.specs.declared.ir.heads.VariableSort.{VariableSort}
+use Rattle.ir_trees.specs.declared.ir.heads.VariableSort.TheVariants as V
+use Rattle.ir_trees.specs.declared.ir.kinds.Clause.{Clause}
+use Rattle.ir_trees.specs.Declarations.Context.{Context, world}
+use Rattle.ir_trees.specs.Hierarchy.Elaboration.{Elaborates, IsElaboration, SuperClauses, ended, implied, implied_by, renumbered, step, supers_if, under_binder, unlisted, variables_of}
+use Rattle.ir_trees.specs.Instantiation.Folding.{substituted}
+use Rattle.ir_trees.specs.Syntax.Nodes.{kind_at}
+use Rattle.ir_trees.specs.Declarations.References.{FitsAmong}
+use Rattle.ir_trees.specs.Hierarchy.Supertraits.{head_trait}
+use Rattle.ir_trees.specs.Syntax.Trees.{Kind, BinderKind, ClauseKind, VariableKind, Forest, none, tree, Tree, count, holds, is_param, kind_of, list_kind, sort_kind, tree_holds}
+use Rattle.ir_trees.specs.Validity.WellFormed.{IsWellFormedTable}
+use Rattle.ir_trees.specs.Syntax.Words.{ClauseListFits, clause_tree}
+use Rattle.ir_trees.specs.Declarations.Worlds.{Fits, World, all_of, child_kinds, clause_kinds, joined, kinds_of}
+use Rattle.ir_trees.proofs.Instantiation.Folding.{or-right}
+use Rattle.ir_context.proofs.Instantiation.Owned.{or-none}
+use Rattle.ir_trees.proofs.Kinding.References.{fit-at}
+use Rattle.ir_trees.proofs.Syntax.Rows.{kind-of}
 use Rattle.candidate_eval.proofs.Marks.Marking.{unmarked}
 use Rattle.candidate_eval.proofs.Builtins.PartsFree.{put-parameterless}
 use Rattle.candidate_assembly.specs.Laws.BuiltinLaws.{nodes_fit}

@@ -2,19 +2,19 @@
 use Rattle.std.proofs.Common.{◌≡◌, ◌<◌, ◌+◌, ◌==◌, ℕ, zero, suc, Bool, true, false, Option, Some, None, List, arith, length, nat_le, nat_lt, refl, sym, ap, subst, ◌∙◌}
 use Rattle.std.specs.Prelude.{slice_get, if◌then◌else◌}
 use Rattle.std.proofs.lemmas.Option.{slice_get_within}
-use Rattle.candidate_ir.specs.declared.ir.heads.ConstHead.TheVariants as C
-use Rattle.candidate_ir.specs.declared.ir.heads.Head.{Head}
-use Rattle.candidate_ir.specs.declared.ir.heads.Head.TheVariants as H
-use Rattle.candidate_ir.specs.declared.ir.kinds.BoundVar.{BoundVar}
-use Rattle.candidate_ir.specs.declared.ir.kinds.RegionKind.TheVariants as R
-use Rattle.candidate_ir.specs.declared.ir.kinds.VarKind.{VarKind}
-use Rattle.candidate_ir.specs.declared.ir.kinds.VarKind.TheVariants as V
-use Rattle.candidate_ir.specs.Instantiation.Folding.{argument, leaf, put, shift_tree, substituted}
-use Rattle.candidate_ir.specs.Instantiation.Opening.{bound_head, error_of, is_of, nearer, opened}
-use Rattle.candidate_ir.specs.Unification.Substitutions.{alone}
-use Rattle.candidate_ir.specs.Syntax.Trees.{Kind, Forest, none, tree, Tree, count, holds, is_param, join}
-use Rattle.candidate_ir.proofs.Syntax.Splits.{count-join}
-use Rattle.candidate_ir.proofs.Instantiation.Substituting.{fold-agree}
+use Rattle.ir_trees.specs.declared.ir.heads.ConstHead.TheVariants as C
+use Rattle.ir_trees.specs.declared.ir.heads.Head.{Head}
+use Rattle.ir_trees.specs.declared.ir.heads.Head.TheVariants as H
+use Rattle.ir_trees.specs.declared.ir.kinds.BoundVar.{BoundVar}
+use Rattle.ir_trees.specs.declared.ir.kinds.RegionKind.TheVariants as R
+use Rattle.ir_trees.specs.declared.ir.kinds.VarKind.{VarKind}
+use Rattle.ir_trees.specs.declared.ir.kinds.VarKind.TheVariants as V
+use Rattle.ir_trees.specs.Instantiation.Folding.{argument, leaf, put, shift_tree, substituted}
+use Rattle.ir_trees.specs.Instantiation.Opening.{bound_head, error_of, is_of, nearer, opened}
+use Rattle.ir_trees.specs.Unification.Substitutions.{alone}
+use Rattle.ir_trees.specs.Syntax.Trees.{Kind, Forest, none, tree, Tree, count, holds, is_param, join}
+use Rattle.ir_trees.proofs.Syntax.Splits.{count-join}
+use Rattle.ir_folds.proofs.Instantiation.Substituting.{fold-agree}
 use Rattle.candidate_eval.specs.Derivations.Naming.{name_of, named, named_head, named_variable}
 use Rattle.candidate_eval.proofs.Marks.Marking.{IsUnmarked, fold-unmarked}
 use Rattle.candidate_eval.proofs.Derivations.Naming.{StandFor, named-row}

@@ -1,7 +1,7 @@
 -- A kind of goals that asks of objects what their traits require asks for all of it.
 use Rattle.std.proofs.Common.{◌≡◌, ℕ, Bool, true, List}
-use Rattle.candidate_ir.specs.Declarations.Context.{Context}
-use Rattle.candidate_ir.specs.Syntax.Trees.{Forest, Tree}
+use Rattle.ir_trees.specs.Declarations.Context.{Context}
+use Rattle.ir_trees.specs.Syntax.Trees.{Forest, Tree}
 use Rattle.candidate_eval.specs.Dynamic.ObjectRequirements.{AreAsked}
 use Rattle.candidate_eval.specs.Judges.States.{Env, Goal, Judge, State}
 use Rattle.candidate_assembly.specs.Rules.ObjectBounds.{AreAskedIf, all_asked, none_asked}

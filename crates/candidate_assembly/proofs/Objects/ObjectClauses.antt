@@ -5,18 +5,18 @@ use Rattle.std.specs.Prelude.{if◌then◌else◌}
 use Rattle.std.proofs.lemmas.List.{append-nil, append_assoc, map-append}
 use Rattle.std.proofs.lemmas.List.Elements.{All-cons, All-nil}
 use Rattle.std.proofs.Math.ListN.{drop}
-use Rattle.candidate_ir.specs.declared.ir.kinds.Clause.{Clause}
-use Rattle.candidate_ir.specs.declared.ir.kinds.Pred.{Pred}
-use Rattle.candidate_ir.specs.declared.ir.kinds.Ty.{Ty}
-use Rattle.candidate_ir.specs.Declarations.Context.{Context, Grows}
-use Rattle.candidate_ir.specs.Syntax.Kinds.{numbers}
-use Rattle.candidate_ir.specs.Syntax.Nodes.{kind_at, kinds_at, pred_child}
-use Rattle.candidate_ir.specs.Syntax.Trees.{ClauseKind, PredicateKind, Tree}
-use Rattle.candidate_ir.specs.Syntax.Words.{ClauseListFits, IsClause, IsPred, IsTy, PredListFits, clause_tree, pred_list_forest, pred_tree, ty_tree}
-use Rattle.candidate_ir.proofs.Instantiation.Joining.{clause-kept}
-use Rattle.candidate_ir.proofs.Growth.Kept.{grows-refl, grows-trans, number-kept, ty-kept}
-use Rattle.candidate_ir.proofs.Syntax.Lists.{below_kind}
-use Rattle.candidate_ir.proofs.Syntax.Rows.{row-single}
+use Rattle.ir_trees.specs.declared.ir.kinds.Clause.{Clause}
+use Rattle.ir_trees.specs.declared.ir.kinds.Pred.{Pred}
+use Rattle.ir_trees.specs.declared.ir.kinds.Ty.{Ty}
+use Rattle.ir_trees.specs.Declarations.Context.{Context, Grows}
+use Rattle.ir_trees.specs.Syntax.Kinds.{numbers}
+use Rattle.ir_trees.specs.Syntax.Nodes.{kind_at, kinds_at, pred_child}
+use Rattle.ir_trees.specs.Syntax.Trees.{ClauseKind, PredicateKind, Tree}
+use Rattle.ir_trees.specs.Syntax.Words.{ClauseListFits, IsClause, IsPred, IsTy, PredListFits, clause_tree, pred_list_forest, pred_tree, ty_tree}
+use Rattle.ir_folds.proofs.Instantiation.Joining.{clause-kept}
+use Rattle.ir_trees.proofs.Growth.Kept.{grows-refl, grows-trans, number-kept, ty-kept}
+use Rattle.ir_trees.proofs.Syntax.Lists.{below_kind}
+use Rattle.ir_trees.proofs.Syntax.Rows.{row-single}
 use Rattle.candidate_eval.specs.declared.eval.source.BuiltinImplSource.TheVariants.{Misc, Object}
 use Rattle.candidate_eval.specs.declared.eval.source.CandidateSource.{CandidateSource}
 use Rattle.candidate_eval.specs.declared.eval.source.CandidateSource.TheVariants.{BuiltinImpl}

@@ -3,35 +3,35 @@ use Rattle.std.proofs.Common.{◌≡◌, ℕ, suc, Bool, true, false, not, Optio
 use Rattle.std.specs.List.{filter}
 use Rattle.std.specs.Option.{unwrap_or}
 use Rattle.std.specs.Prelude.{◌&&◌, if◌then◌else◌}
-use Rattle.candidate_ir.specs.declared.ir.heads.ClauseHead.TheVariants as Cl
-use Rattle.candidate_ir.specs.declared.ir.heads.Head.{Head}
-use Rattle.candidate_ir.specs.declared.ir.heads.Head.TheVariants as H
-use Rattle.candidate_ir.specs.declared.ir.heads.ListHead.{ListHead}
-use Rattle.candidate_ir.specs.declared.ir.heads.ListHead.TheVariants as LH
-use Rattle.candidate_ir.specs.declared.ir.heads.PartHead.TheVariants as P
-use Rattle.candidate_ir.specs.declared.ir.heads.PredHead.TheVariants as PH
-use Rattle.candidate_ir.specs.declared.ir.heads.VariableSort.{VariableSort}
-use Rattle.candidate_ir.specs.declared.ir.heads.VariableSort.TheVariants as V
-use Rattle.candidate_ir.specs.declared.ir.kinds.Clause.{Clause}
-use Rattle.candidate_ir.specs.declared.ir.kinds.ParamEnv.{ParamEnv}
-use Rattle.candidate_ir.specs.declared.ir.kinds.PredicatePolarity.TheVariants as Pol
-use Rattle.candidate_ir.specs.declared.ir.kinds.TraitPredicate.{TraitPredicate}
-use Rattle.candidate_ir.specs.declared.ir.unify.RightSide.TheVariants as Side
-use Rattle.candidate_ir.specs.Declarations.Context.{Context, Grows, world}
-use Rattle.candidate_ir.specs.Declarations.Declaring.{trait_at}
-use Rattle.candidate_ir.specs.Hierarchy.Elaboration.{IsElaboration, is_there, super_clauses, trait_of}
-use Rattle.candidate_ir.specs.Instantiation.Folding.{fold, lacks_argument, put}
-use Rattle.candidate_ir.specs.Declarations.Lookups.{assoc_trait, definition}
-use Rattle.candidate_ir.specs.Syntax.Nodes.{kind_at}
-use Rattle.candidate_ir.specs.Declarations.References.{FitsAmong}
-use Rattle.candidate_ir.specs.Hierarchy.Supers.{supers_at}
-use Rattle.candidate_ir.specs.Syntax.Trees.{Kind, TypeKind, ClauseKind, BinderKind, PredicateKind, Forest, none, tree, Tree, binders_of, kind_of, sort_kind, list_kind, tree_holds}
-use Rattle.candidate_ir.specs.Unification.Unify.{may_unify}
-use Rattle.candidate_ir.specs.Validity.WellFormed.{IsWellFormedTable}
-use Rattle.candidate_ir.specs.Syntax.Words.{ClauseListFits, clause_tree}
-use Rattle.candidate_ir.specs.Declarations.Worlds.{AssociatedTypeSort, Fits, Reference, World, bounds_of, child_kinds, joined, kinds_of, parameters}
-use Rattle.candidate_ir.proofs.Kinding.References.{fit-at}
-use Rattle.candidate_ir.proofs.Syntax.Rows.{kind-of}
+use Rattle.ir_trees.specs.declared.ir.heads.ClauseHead.TheVariants as Cl
+use Rattle.ir_trees.specs.declared.ir.heads.Head.{Head}
+use Rattle.ir_trees.specs.declared.ir.heads.Head.TheVariants as H
+use Rattle.ir_trees.specs.declared.ir.heads.ListHead.{ListHead}
+use Rattle.ir_trees.specs.declared.ir.heads.ListHead.TheVariants as LH
+use Rattle.ir_trees.specs.declared.ir.heads.PartHead.TheVariants as P
+use Rattle.ir_trees.specs.declared.ir.heads.PredHead.TheVariants as PH
+use Rattle.ir_trees.specs.declared.ir.heads.VariableSort.{VariableSort}
+use Rattle.ir_trees.specs.declared.ir.heads.VariableSort.TheVariants as V
+use Rattle.ir_trees.specs.declared.ir.kinds.Clause.{Clause}
+use Rattle.ir_trees.specs.declared.ir.kinds.ParamEnv.{ParamEnv}
+use Rattle.ir_trees.specs.declared.ir.kinds.PredicatePolarity.TheVariants as Pol
+use Rattle.ir_trees.specs.declared.ir.kinds.TraitPredicate.{TraitPredicate}
+use Rattle.ir_trees.specs.declared.ir.unify.RightSide.TheVariants as Side
+use Rattle.ir_trees.specs.Declarations.Context.{Context, Grows, world}
+use Rattle.ir_trees.specs.Declarations.Declaring.{trait_at}
+use Rattle.ir_trees.specs.Hierarchy.Elaboration.{IsElaboration, is_there, super_clauses, trait_of}
+use Rattle.ir_trees.specs.Instantiation.Folding.{fold, lacks_argument, put}
+use Rattle.ir_trees.specs.Declarations.Lookups.{assoc_trait, definition}
+use Rattle.ir_trees.specs.Syntax.Nodes.{kind_at}
+use Rattle.ir_trees.specs.Declarations.References.{FitsAmong}
+use Rattle.ir_trees.specs.Hierarchy.Supers.{supers_at}
+use Rattle.ir_trees.specs.Syntax.Trees.{Kind, TypeKind, ClauseKind, BinderKind, PredicateKind, Forest, none, tree, Tree, binders_of, kind_of, sort_kind, list_kind, tree_holds}
+use Rattle.ir_trees.specs.Unification.Unify.{may_unify}
+use Rattle.ir_trees.specs.Validity.WellFormed.{IsWellFormedTable}
+use Rattle.ir_trees.specs.Syntax.Words.{ClauseListFits, clause_tree}
+use Rattle.ir_trees.specs.Declarations.Worlds.{AssociatedTypeSort, Fits, Reference, World, bounds_of, child_kinds, joined, kinds_of, parameters}
+use Rattle.ir_trees.proofs.Kinding.References.{fit-at}
+use Rattle.ir_trees.proofs.Syntax.Rows.{kind-of}
 use Rattle.candidate_eval.specs.declared.eval.source.BuiltinImplSource.TheVariants.{Misc}
 use Rattle.candidate_eval.specs.declared.eval.source.CandidateSource.TheVariants.{BuiltinImpl}
 use Rattle.candidate_eval.specs.Builtins.Callable.{all_but_last}

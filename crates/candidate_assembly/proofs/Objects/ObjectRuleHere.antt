@@ -3,8 +3,8 @@ use Rattle.std.proofs.Common.{◌≡◌, ◌+◌, ℕ, suc, Bool, true, false, L
 use Rattle.std.specs.Prelude.{if◌then◌else◌}
 use Rattle.std.specs.List.{filter}
 use Rattle.std.proofs.lemmas.List.Elements.{All-append, All-head, All-nil, All-tail}
-use Rattle.candidate_ir.specs.Declarations.Context.{Context}
-use Rattle.candidate_ir.specs.Syntax.Trees.{Forest, Tree, none}
+use Rattle.ir_trees.specs.Declarations.Context.{Context}
+use Rattle.ir_trees.specs.Syntax.Trees.{Forest, Tree, none}
 use Rattle.candidate_eval.specs.Derivations.Judging.{Ambiguous, At, Judged, Over, Place, Reached, Refused, comes_to, continued, is_at, judged, start}
 use Rattle.candidate_eval.specs.Derivations.Mentions.{IsBelow, MatchesBelow, StepsBelow, is_from}
 use Rattle.candidate_eval.specs.Derivations.Rules.{Rule, Step, nested}

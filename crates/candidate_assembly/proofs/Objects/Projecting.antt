@@ -2,11 +2,11 @@
 -- the projections themselves as the terms the row is as it was, and the terms that follow them are left.
 use Rattle.std.proofs.Common.{◌≡◌, ◌&&◌, Bool, true, false, Option, Some, None, List, [], ◌++◌, ap, append_assoc, map, refl, sym, ◌∙◌}
 use Rattle.std.proofs.lemmas.List.{append-nil, map-append}
-use Rattle.candidate_ir.specs.declared.ir.heads.Head.{Head}
-use Rattle.candidate_ir.specs.declared.ir.heads.Head.TheVariants as H
-use Rattle.candidate_ir.specs.declared.ir.kinds.AliasKind.TheVariants as A
-use Rattle.candidate_ir.specs.Instantiation.Folds.{node}
-use Rattle.candidate_ir.specs.Syntax.Trees.{Forest, Tree, none, tree}
+use Rattle.ir_trees.specs.declared.ir.heads.Head.{Head}
+use Rattle.ir_trees.specs.declared.ir.heads.Head.TheVariants as H
+use Rattle.ir_trees.specs.declared.ir.kinds.AliasKind.TheVariants as A
+use Rattle.ir_trees.specs.Instantiation.Folds.{node}
+use Rattle.ir_trees.specs.Syntax.Trees.{Forest, Tree, none, tree}
 use Rattle.candidate_eval.specs.Dynamic.Objects.{Projection}
 use Rattle.candidate_eval.specs.Dynamic.Replacing.{Filled, Finds, any_is_about, filled, filled_clause, filled_from, found_or, own_projection, projection_if, projections, starts_with, then_filled}
 

@@ -2,25 +2,25 @@
 use Rattle.std.proofs.Common.{◌≡◌, ℕ, Bool, true, false, Option, Some, None, List, [], ◌∷◌, ◌++◌, map, refl, sym, ap, subst, ◌∙◌}
 use Rattle.std.specs.List.{filter}
 use Rattle.std.specs.Prelude.{IfSome, ◌&&◌, if◌then◌else◌}
-use Rattle.candidate_ir.specs.declared.ir.heads.ClauseHead.TheVariants as Cl
-use Rattle.candidate_ir.specs.declared.ir.heads.Head.{Head}
-use Rattle.candidate_ir.specs.declared.ir.heads.Head.TheVariants as H
-use Rattle.candidate_ir.specs.declared.ir.heads.PartHead.TheVariants as P
-use Rattle.candidate_ir.specs.declared.ir.heads.PredHead.TheVariants as PH
-use Rattle.candidate_ir.specs.declared.ir.kinds.Args.{Args}
-use Rattle.candidate_ir.specs.declared.ir.kinds.Clause.{Clause}
-use Rattle.candidate_ir.specs.declared.ir.kinds.PredicatePolarity.TheVariants as Polarity
-use Rattle.candidate_ir.specs.Declarations.Context.{Context, Grows, world}
-use Rattle.candidate_ir.specs.Declarations.Declaring.{trait_at}
-use Rattle.candidate_ir.specs.Hierarchy.Elaboration.{AreSupertraits, Elaborates, IsElaboration, ended, implied, implied_by, lists, step, super_clauses, supers_if, trait_of, unlisted}
-use Rattle.candidate_ir.specs.Declarations.References.{FitsAmong}
-use Rattle.candidate_ir.specs.Hierarchy.Supers.{supers_at}
-use Rattle.candidate_ir.specs.Hierarchy.Supertraits.{head_trait}
-use Rattle.candidate_ir.specs.Syntax.Trees.{Kind, TypeKind, BinderKind, Forest, none, tree, Tree}
-use Rattle.candidate_ir.specs.Validity.WellFormed.{IsWellFormedTable}
-use Rattle.candidate_ir.specs.Syntax.Words.{IsArgs, args_forest, clause_tree}
-use Rattle.candidate_ir.specs.Declarations.Worlds.{Fits, TraitSort, World, child_kinds, joined, kinds_of, parameters}
-use Rattle.candidate_ir.proofs.Kinding.References.{fit-at}
+use Rattle.ir_trees.specs.declared.ir.heads.ClauseHead.TheVariants as Cl
+use Rattle.ir_trees.specs.declared.ir.heads.Head.{Head}
+use Rattle.ir_trees.specs.declared.ir.heads.Head.TheVariants as H
+use Rattle.ir_trees.specs.declared.ir.heads.PartHead.TheVariants as P
+use Rattle.ir_trees.specs.declared.ir.heads.PredHead.TheVariants as PH
+use Rattle.ir_trees.specs.declared.ir.kinds.Args.{Args}
+use Rattle.ir_trees.specs.declared.ir.kinds.Clause.{Clause}
+use Rattle.ir_trees.specs.declared.ir.kinds.PredicatePolarity.TheVariants as Polarity
+use Rattle.ir_trees.specs.Declarations.Context.{Context, Grows, world}
+use Rattle.ir_trees.specs.Declarations.Declaring.{trait_at}
+use Rattle.ir_trees.specs.Hierarchy.Elaboration.{AreSupertraits, Elaborates, IsElaboration, ended, implied, implied_by, lists, step, super_clauses, supers_if, trait_of, unlisted}
+use Rattle.ir_trees.specs.Declarations.References.{FitsAmong}
+use Rattle.ir_trees.specs.Hierarchy.Supers.{supers_at}
+use Rattle.ir_trees.specs.Hierarchy.Supertraits.{head_trait}
+use Rattle.ir_trees.specs.Syntax.Trees.{Kind, TypeKind, BinderKind, Forest, none, tree, Tree}
+use Rattle.ir_trees.specs.Validity.WellFormed.{IsWellFormedTable}
+use Rattle.ir_trees.specs.Syntax.Words.{IsArgs, args_forest, clause_tree}
+use Rattle.ir_trees.specs.Declarations.Worlds.{Fits, TraitSort, World, child_kinds, joined, kinds_of, parameters}
+use Rattle.ir_trees.proofs.Kinding.References.{fit-at}
 use Rattle.candidate_eval.specs.Builtins.Callable.{all_but_last}
 use Rattle.candidate_eval.specs.Dynamic.ObjectRequirements.{first_tree}
 use Rattle.candidate_eval.specs.Dynamic.Required.{each_of}

@@ -2,25 +2,25 @@
 use Rattle.std.proofs.Common.{Bool, List, None, Option, Some, ap, false, inl, inr, length, refl, subst, sym, true, ℕ, ◌+◌, ◌<◌, ◌∙◌, ◌≡◌, ◌⊎◌}
 use Rattle.std.specs.Option.{unwrap_or}
 use Rattle.std.specs.Prelude.{IsTrue, ◌↔◌, if◌then◌else◌}
-use Rattle.candidate_ir.specs.declared.ir.kinds.Const.{Const}
-use Rattle.candidate_ir.specs.declared.ir.kinds.GenericArg.{GenericArg}
-use Rattle.candidate_ir.specs.declared.ir.kinds.GenericArg.TheVariants as G
-use Rattle.candidate_ir.specs.declared.ir.kinds.Region.{Region}
-use Rattle.candidate_ir.specs.declared.ir.kinds.Ty.{Ty}
-use Rattle.candidate_ir.specs.Hierarchy.Elaboration.{same_tree}
-use Rattle.candidate_ir.specs.Instantiation.Folding.{fold}
-use Rattle.candidate_ir.specs.Instantiation.Folds.{IsArg, arg_tree, is_asked, is_asked_kind, node}
-use Rattle.candidate_ir.specs.Syntax.Trees.{ConstantKind, Forest, RegionKind, Tree, TypeKind, binders_of, holds, is_alias, kind_of, none, tree, tree_holds}
-use Rattle.candidate_ir.specs.Syntax.Nodes.{Extends, tree_at}
-use Rattle.candidate_ir.specs.Syntax.Words.{IsTy, ty_tree}
-use Rattle.candidate_ir.proofs.Hierarchy.Elaboration.{tree_is}
-use Rattle.candidate_ir.proofs.Growth.Kept.{number-kept}
-use Rattle.candidate_ir.proofs.Instantiation.Folding.{fold-nothing, or-left, or-right}
-use Rattle.candidate_ir.proofs.Syntax.Lists.{below_kind}
-use Rattle.candidate_ir.proofs.Syntax.Rows.{kind-of}
+use Rattle.ir_trees.specs.declared.ir.kinds.Const.{Const}
+use Rattle.ir_trees.specs.declared.ir.kinds.GenericArg.{GenericArg}
+use Rattle.ir_trees.specs.declared.ir.kinds.GenericArg.TheVariants as G
+use Rattle.ir_trees.specs.declared.ir.kinds.Region.{Region}
+use Rattle.ir_trees.specs.declared.ir.kinds.Ty.{Ty}
+use Rattle.ir_trees.specs.Hierarchy.Elaboration.{same_tree}
+use Rattle.ir_trees.specs.Instantiation.Folding.{fold}
+use Rattle.ir_trees.specs.Instantiation.Folds.{IsArg, arg_tree, is_asked, is_asked_kind, node}
+use Rattle.ir_trees.specs.Syntax.Trees.{ConstantKind, Forest, RegionKind, Tree, TypeKind, binders_of, holds, is_alias, kind_of, none, tree, tree_holds}
+use Rattle.ir_trees.specs.Syntax.Nodes.{Extends, tree_at}
+use Rattle.ir_trees.specs.Syntax.Words.{IsTy, ty_tree}
+use Rattle.ir_context.proofs.Hierarchy.Elaboration.{tree_is}
+use Rattle.ir_trees.proofs.Growth.Kept.{number-kept}
+use Rattle.ir_trees.proofs.Instantiation.Folding.{fold-nothing, or-left, or-right}
+use Rattle.ir_trees.proofs.Syntax.Lists.{below_kind}
+use Rattle.ir_trees.proofs.Syntax.Rows.{kind-of}
 use Rattle.candidate_eval.proofs.Dynamic.Replacing.{same-says}
 use Rattle.candidate_assembly.specs.Rules.Opaques.{answer_for, type_for, with_type_for}
-use Rattle.candidate_ir.specs.declared.ir.heads.Head.{Head}
+use Rattle.ir_trees.specs.declared.ir.heads.Head.{Head}
 use Rattle.candidate_eval.specs.Interface.Unmade.{IsFilled}
 
 -- what is of another kind is another tree

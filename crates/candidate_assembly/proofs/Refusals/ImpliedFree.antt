@@ -1,25 +1,25 @@
 -- No parameter stands in what clauses imply, where none stands in them.
 use Rattle.std.proofs.Common.{◌≡◌, false, refl, Option, Some, None, List, [], ◌∷◌, ◌++◌, map}
 use Rattle.std.specs.Prelude.{IfSome, ℕ}
-use Rattle.candidate_ir.specs.declared.ir.heads.Head.{Head}
-use Rattle.candidate_ir.specs.declared.ir.heads.Head.TheVariants as H
-use Rattle.candidate_ir.specs.declared.ir.heads.ListHead.{ListHead}
-use Rattle.candidate_ir.specs.declared.ir.heads.ListHead.TheVariants as LH
-use Rattle.candidate_ir.specs.declared.ir.heads.VariableSort.{VariableSort}
-use Rattle.candidate_ir.specs.declared.ir.heads.VariableSort.TheVariants as VS
-use Rattle.candidate_ir.specs.declared.ir.kinds.Clause.{Clause}
-use Rattle.candidate_ir.specs.Declarations.Context.{Context, world}
-use Rattle.candidate_ir.specs.Declarations.Declaring.{trait_at}
-use Rattle.candidate_ir.specs.Hierarchy.Elaboration.{Elaborates, IsElaboration, ended, implied, implied_by, step, super_clauses, supers_if, unlisted}
-use Rattle.candidate_ir.specs.Syntax.Nodes.{kind_at}
-use Rattle.candidate_ir.specs.Hierarchy.Supers.{supers_at}
-use Rattle.candidate_ir.specs.Hierarchy.Supertraits.{head_trait}
-use Rattle.candidate_ir.specs.Syntax.Trees.{ClauseKind, Tree, holds, is_param, kind_of, list_kind, sort_kind, tree_holds}
-use Rattle.candidate_ir.specs.Validity.WellFormed.{IsWellFormedTable}
-use Rattle.candidate_ir.specs.Syntax.Words.{ClauseListFits, clause_tree}
-use Rattle.candidate_ir.proofs.Instantiation.Owned.{or-none}
-use Rattle.candidate_ir.proofs.Kinding.References.{fit-at}
-use Rattle.candidate_ir.proofs.Syntax.Rows.{kind-of}
+use Rattle.ir_trees.specs.declared.ir.heads.Head.{Head}
+use Rattle.ir_trees.specs.declared.ir.heads.Head.TheVariants as H
+use Rattle.ir_trees.specs.declared.ir.heads.ListHead.{ListHead}
+use Rattle.ir_trees.specs.declared.ir.heads.ListHead.TheVariants as LH
+use Rattle.ir_trees.specs.declared.ir.heads.VariableSort.{VariableSort}
+use Rattle.ir_trees.specs.declared.ir.heads.VariableSort.TheVariants as VS
+use Rattle.ir_trees.specs.declared.ir.kinds.Clause.{Clause}
+use Rattle.ir_trees.specs.Declarations.Context.{Context, world}
+use Rattle.ir_trees.specs.Declarations.Declaring.{trait_at}
+use Rattle.ir_trees.specs.Hierarchy.Elaboration.{Elaborates, IsElaboration, ended, implied, implied_by, step, super_clauses, supers_if, unlisted}
+use Rattle.ir_trees.specs.Syntax.Nodes.{kind_at}
+use Rattle.ir_trees.specs.Hierarchy.Supers.{supers_at}
+use Rattle.ir_trees.specs.Hierarchy.Supertraits.{head_trait}
+use Rattle.ir_trees.specs.Syntax.Trees.{ClauseKind, Tree, holds, is_param, kind_of, list_kind, sort_kind, tree_holds}
+use Rattle.ir_trees.specs.Validity.WellFormed.{IsWellFormedTable}
+use Rattle.ir_trees.specs.Syntax.Words.{ClauseListFits, clause_tree}
+use Rattle.ir_context.proofs.Instantiation.Owned.{or-none}
+use Rattle.ir_trees.proofs.Kinding.References.{fit-at}
+use Rattle.ir_trees.proofs.Syntax.Rows.{kind-of}
 use Rattle.candidate_assembly.specs.Laws.BuiltinLaws.{nodes_fit}
 use Rattle.candidate_assembly.specs.Laws.Given.{TraitIsGiven}
 use Rattle.candidate_assembly.specs.Laws.SuperLaws.{Each, NamesGiven}

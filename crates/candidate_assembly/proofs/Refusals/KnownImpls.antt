@@ -6,32 +6,32 @@ use Rattle.std.specs.List.{Contains, filter}
 use Rattle.std.specs.Option.{unwrap_or}
 use Rattle.std.proofs.lemmas.List.{append-nil}
 use Rattle.std.proofs.lemmas.List.Elements.{All-cons, All-contains, All-head, All-nil, All-tail}
-use Rattle.candidate_ir.specs.declared.decl.contents.ImplId.{ImplId}
-use Rattle.candidate_ir.specs.declared.ir.heads.Head.{Head}
-use Rattle.candidate_ir.specs.declared.ir.heads.Head.TheVariants as H
-use Rattle.candidate_ir.specs.declared.ir.heads.ConstHead.TheVariants as C
-use Rattle.candidate_ir.specs.declared.ir.kinds.Clause.{Clause}
-use Rattle.candidate_ir.specs.declared.ir.kinds.GoalSource.{GoalSource}
-use Rattle.candidate_ir.specs.declared.ir.kinds.GoalSource.TheVariants.{ImplWhereBound, Misc}
-use Rattle.candidate_ir.specs.declared.ir.kinds.ParamEnv.{ParamEnv}
-use Rattle.candidate_ir.specs.declared.ir.kinds.TraitPredicate.{TraitPredicate}
-use Rattle.candidate_ir.specs.declared.ir.unify.RightSide.TheVariants as R
-use Rattle.candidate_ir.specs.Declarations.Context.{Context, world}
-use Rattle.candidate_ir.specs.Declarations.Contents.{Impl}
-use Rattle.candidate_ir.specs.Instantiation.Folding.{put, substituted, substituted_tree}
-use Rattle.candidate_ir.specs.Unification.Impls.{first_type, impls_of, is_relevant, may_be_for, listed_type, relevant_impls, self_type as impl_type}
-use Rattle.candidate_ir.specs.Declarations.Lookups.{maybe}
-use Rattle.candidate_ir.specs.Unification.Substitutions.{Overlap, Universes, is_made}
-use Rattle.candidate_ir.specs.Syntax.Trees.{Forest, Kind, TypeKind, none, tree, Tree, binders_of, erase, holds, is_alias, is_param, is_type, is_type_kind, kind_of}
-use Rattle.candidate_ir.specs.Unification.Unify.{IsFilled, may_unify, stands_for_any, stands_for_any_on_right, trees_may_unify}
-use Rattle.candidate_ir.specs.Validity.WellFormed.{ImplIsGiven, IsWellFormedTable}
-use Rattle.candidate_ir.specs.Syntax.Words.{clause_tree}
-use Rattle.candidate_ir.specs.Declarations.Worlds.{IsOf, Reference, joined, kinds_of, parameters, TraitSort}
-use Rattle.candidate_ir.proofs.Instantiation.Folding.{substituted-nothing}
-use Rattle.candidate_ir.proofs.Validity.Given.{impl_given}
-use Rattle.candidate_ir.proofs.Validity.ListedImpls.{impl_is_listed}
-use Rattle.candidate_ir.proofs.Unification.MayUnify.{list_rejected}
-use Rattle.candidate_ir.proofs.Kinding.References.{is-reference}
+use Rattle.ir_trees.specs.declared.decl.contents.ImplId.{ImplId}
+use Rattle.ir_trees.specs.declared.ir.heads.Head.{Head}
+use Rattle.ir_trees.specs.declared.ir.heads.Head.TheVariants as H
+use Rattle.ir_trees.specs.declared.ir.heads.ConstHead.TheVariants as C
+use Rattle.ir_trees.specs.declared.ir.kinds.Clause.{Clause}
+use Rattle.ir_trees.specs.declared.ir.kinds.GoalSource.{GoalSource}
+use Rattle.ir_trees.specs.declared.ir.kinds.GoalSource.TheVariants.{ImplWhereBound, Misc}
+use Rattle.ir_trees.specs.declared.ir.kinds.ParamEnv.{ParamEnv}
+use Rattle.ir_trees.specs.declared.ir.kinds.TraitPredicate.{TraitPredicate}
+use Rattle.ir_trees.specs.declared.ir.unify.RightSide.TheVariants as R
+use Rattle.ir_trees.specs.Declarations.Context.{Context, world}
+use Rattle.ir_trees.specs.Declarations.Contents.{Impl}
+use Rattle.ir_trees.specs.Instantiation.Folding.{put, substituted, substituted_tree}
+use Rattle.ir_trees.specs.Unification.Impls.{first_type, impls_of, is_relevant, may_be_for, listed_type, relevant_impls, self_type as impl_type}
+use Rattle.ir_trees.specs.Declarations.Lookups.{maybe}
+use Rattle.ir_trees.specs.Unification.Substitutions.{Overlap, Universes, is_made}
+use Rattle.ir_trees.specs.Syntax.Trees.{Forest, Kind, TypeKind, none, tree, Tree, binders_of, erase, holds, is_alias, is_param, is_type, is_type_kind, kind_of}
+use Rattle.ir_trees.specs.Unification.Unify.{IsFilled, may_unify, stands_for_any, stands_for_any_on_right, trees_may_unify}
+use Rattle.ir_trees.specs.Validity.WellFormed.{ImplIsGiven, IsWellFormedTable}
+use Rattle.ir_trees.specs.Syntax.Words.{clause_tree}
+use Rattle.ir_trees.specs.Declarations.Worlds.{IsOf, Reference, joined, kinds_of, parameters, TraitSort}
+use Rattle.ir_trees.proofs.Instantiation.Folding.{substituted-nothing}
+use Rattle.ir_context.proofs.Validity.Given.{impl_given}
+use Rattle.ir_context.proofs.Validity.ListedImpls.{impl_is_listed}
+use Rattle.ir_trees.proofs.Unification.MayUnify.{list_rejected}
+use Rattle.ir_trees.proofs.Kinding.References.{is-reference}
 use Rattle.candidate_eval.specs.declared.eval.certainty.Certainty.{Certainty}
 use Rattle.candidate_eval.specs.declared.eval.refusal.NoSolutionOrStop.{NoSolutionOrStop}
 use Rattle.candidate_eval.specs.declared.eval.response.CanonicalResponse.{CanonicalResponse}

@@ -5,12 +5,12 @@ use Rattle.std.specs.Prelude.{List, length}
 use Rattle.std.specs.Option.{unwrap_or}
 use Rattle.std.proofs.lemmas.Bool.{lt-ltb}
 use Rattle.std.proofs.lemmas.Option.{slice_get_within}
-use Rattle.candidate_ir.specs.declared.ir.heads.Head.TheVariants as H
-use Rattle.candidate_ir.specs.declared.ir.heads.Variable.{Variable}
-use Rattle.candidate_ir.specs.Instantiation.Folding.{leaf}
-use Rattle.candidate_ir.specs.Unification.Substitutions.{IsAllowed, IsAllowedBinding, Substitution, Universes, alone, apply, is_placeholder_above, lookup}
-use Rattle.candidate_ir.specs.Syntax.Trees.{Forest, Kind, Tree, erase, holds}
-use Rattle.candidate_ir.proofs.Unification.Instances.{same_sort_is}
+use Rattle.ir_trees.specs.declared.ir.heads.Head.TheVariants as H
+use Rattle.ir_trees.specs.declared.ir.heads.Variable.{Variable}
+use Rattle.ir_trees.specs.Instantiation.Folding.{leaf}
+use Rattle.ir_trees.specs.Unification.Substitutions.{IsAllowed, IsAllowedBinding, Substitution, Universes, alone, apply, is_placeholder_above, lookup}
+use Rattle.ir_trees.specs.Syntax.Trees.{Forest, Kind, Tree, erase, holds}
+use Rattle.ir_trees.proofs.Unification.Instances.{same_sort_is}
 use Rattle.candidate_eval.specs.declared.eval.variable.VariableKind.{VariableKind}
 use Rattle.candidate_eval.specs.declared.eval.variable.VariableKind.TheVariants.{Term, Region}
 use Rattle.candidate_eval.specs.Judges.Alike.{info}

@@ -1,11 +1,11 @@
 -- A goal that leaves nothing open stands where variables without values alone count: of their values nothing is to be shown.
 use Rattle.std.proofs.Common.{◌≡◌, ◌&&◌, ℕ, Bool, true, false, not, Option, Some, None, refl, ap, ◌∙◌, if◌then◌else◌}
 use Rattle.std.proofs.lemmas.Bool.{and_parts}
-use Rattle.candidate_ir.specs.declared.ir.heads.ConstHead.TheVariants as C
-use Rattle.candidate_ir.specs.declared.ir.heads.Head.{Head}
-use Rattle.candidate_ir.specs.declared.ir.heads.Head.TheVariants as H
-use Rattle.candidate_ir.specs.declared.ir.kinds.RegionKind.TheVariants as R
-use Rattle.candidate_ir.specs.Syntax.Trees.{Forest, Tree}
+use Rattle.ir_trees.specs.declared.ir.heads.ConstHead.TheVariants as C
+use Rattle.ir_trees.specs.declared.ir.heads.Head.{Head}
+use Rattle.ir_trees.specs.declared.ir.heads.Head.TheVariants as H
+use Rattle.ir_trees.specs.declared.ir.kinds.RegionKind.TheVariants as R
+use Rattle.ir_trees.specs.Syntax.Trees.{Forest, Tree}
 use Rattle.candidate_eval.specs.declared.eval.variable.VariableKind.TheVariants.{Term, Region}
 use Rattle.candidate_eval.specs.Judges.Alike.{info}
 use Rattle.candidate_eval.specs.Derivations.ImplRules.{TraitGoal}

@@ -2,24 +2,24 @@
 use Rattle.std.proofs.Common.{◌≡◌, ℕ, Bool, true, false, List, [], refl, sym, ap, ◌∙◌}
 use Rattle.std.specs.Prelude.{◌||◌, ◌&&◌, not, if◌then◌else◌}
 use Rattle.std.specs.List.{list_any}
-use Rattle.candidate_ir.specs.declared.ir.heads.Builtin.{Builtin}
-use Rattle.candidate_ir.specs.declared.ir.heads.Builtin.TheVariants as B
-use Rattle.candidate_ir.specs.declared.ir.heads.Head.{Head}
-use Rattle.candidate_ir.specs.declared.ir.heads.Head.TheVariants as H
-use Rattle.candidate_ir.specs.declared.ir.heads.ListHead.TheVariants as L
-use Rattle.candidate_ir.specs.declared.ir.heads.PartHead.TheVariants as P
-use Rattle.candidate_ir.specs.declared.ir.kinds.AliasId.{AliasId}
-use Rattle.candidate_ir.specs.declared.ir.kinds.AliasKind.{AliasKind}
-use Rattle.candidate_ir.specs.declared.ir.kinds.AliasKind.TheVariants as AK
-use Rattle.candidate_ir.specs.declared.ir.kinds.Clause.{Clause}
-use Rattle.candidate_ir.specs.declared.ir.kinds.TraitId.{TraitId}
-use Rattle.candidate_ir.specs.Declarations.Context.{Context}
-use Rattle.candidate_ir.specs.Declarations.Contents.{Bounds}
-use Rattle.candidate_ir.specs.Declarations.Declaring.{bounds_at}
-use Rattle.candidate_ir.specs.Declarations.Lookups.{maybe}
-use Rattle.candidate_ir.specs.Syntax.Trees.{TypeKind, Tree, kind_of}
-use Rattle.candidate_ir.specs.Syntax.Words.{clause_tree}
-use Rattle.candidate_ir.specs.Declarations.Worlds.{Reference}
+use Rattle.ir_trees.specs.declared.ir.heads.Builtin.{Builtin}
+use Rattle.ir_trees.specs.declared.ir.heads.Builtin.TheVariants as B
+use Rattle.ir_trees.specs.declared.ir.heads.Head.{Head}
+use Rattle.ir_trees.specs.declared.ir.heads.Head.TheVariants as H
+use Rattle.ir_trees.specs.declared.ir.heads.ListHead.TheVariants as L
+use Rattle.ir_trees.specs.declared.ir.heads.PartHead.TheVariants as P
+use Rattle.ir_trees.specs.declared.ir.kinds.AliasId.{AliasId}
+use Rattle.ir_trees.specs.declared.ir.kinds.AliasKind.{AliasKind}
+use Rattle.ir_trees.specs.declared.ir.kinds.AliasKind.TheVariants as AK
+use Rattle.ir_trees.specs.declared.ir.kinds.Clause.{Clause}
+use Rattle.ir_trees.specs.declared.ir.kinds.TraitId.{TraitId}
+use Rattle.ir_trees.specs.Declarations.Context.{Context}
+use Rattle.ir_trees.specs.Declarations.Contents.{Bounds}
+use Rattle.ir_trees.specs.Declarations.Declaring.{bounds_at}
+use Rattle.ir_trees.specs.Declarations.Lookups.{maybe}
+use Rattle.ir_trees.specs.Syntax.Trees.{TypeKind, Tree, kind_of}
+use Rattle.ir_trees.specs.Syntax.Words.{clause_tree}
+use Rattle.ir_trees.specs.Declarations.Worlds.{Reference}
 use Rattle.candidate_eval.specs.declared.structural.Column.TheVariants as C
 use Rattle.candidate_eval.specs.Builtins.Callable.{is_unknown}
 use Rattle.candidate_eval.specs.Derivations.ImplRules.{TraitGoal}

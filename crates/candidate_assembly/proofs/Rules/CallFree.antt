@@ -1,9 +1,9 @@
 -- What can be called with what: no parameter stands in that where none stands in what is called.
 use Rattle.std.proofs.Common.{◌≡◌, false, refl}
-use Rattle.candidate_ir.specs.declared.ir.kinds.ClosureKind.{ClosureKind}
-use Rattle.candidate_ir.specs.Declarations.Context.{Context}
-use Rattle.candidate_ir.specs.Unification.Substitutions.{alone}
-use Rattle.candidate_ir.specs.Syntax.Trees.{none, Tree, holds, is_param, tree_holds}
+use Rattle.ir_trees.specs.declared.ir.kinds.ClosureKind.{ClosureKind}
+use Rattle.ir_trees.specs.Declarations.Context.{Context}
+use Rattle.ir_trees.specs.Unification.Substitutions.{alone}
+use Rattle.ir_trees.specs.Syntax.Trees.{none, Tree, holds, is_param, tree_holds}
 use Rattle.candidate_eval.specs.Builtins.Callable.{Callable, CalledWith, calls, declared_signature}
 use Rattle.candidate_eval.proofs.Marks.Holds.{holds_parts}
 use Rattle.candidate_eval.proofs.Builtins.PartsFree.{put-parameterless}

@@ -1,14 +1,14 @@
 -- The rule for what can be called, by what is read of the goal's self type.
 use Rattle.std.proofs.Common.{◌≡◌, true, false, Option, Some, None, refl, sym, ap, ◌∙◌}
 use Rattle.std.specs.Prelude.{if◌then◌else◌}
-use Rattle.candidate_ir.specs.declared.ir.kinds.Binder.{Binder}
-use Rattle.candidate_ir.specs.declared.ir.kinds.TraitId.{TraitId}
-use Rattle.candidate_ir.specs.declared.ir.kinds.Ty.{Ty}
-use Rattle.candidate_ir.specs.Declarations.Context.{Context, Grows}
-use Rattle.candidate_ir.specs.Syntax.Trees.{Forest, Tree}
-use Rattle.candidate_ir.specs.Syntax.Words.{ty_tree, vars_tree}
-use Rattle.candidate_ir.proofs.Growth.Kept.{ty-kept}
-use Rattle.candidate_ir.proofs.Hierarchy.Listing.{vars_kept}
+use Rattle.ir_trees.specs.declared.ir.kinds.Binder.{Binder}
+use Rattle.ir_trees.specs.declared.ir.kinds.TraitId.{TraitId}
+use Rattle.ir_trees.specs.declared.ir.kinds.Ty.{Ty}
+use Rattle.ir_trees.specs.Declarations.Context.{Context, Grows}
+use Rattle.ir_trees.specs.Syntax.Trees.{Forest, Tree}
+use Rattle.ir_trees.specs.Syntax.Words.{ty_tree, vars_tree}
+use Rattle.ir_trees.proofs.Growth.Kept.{ty-kept}
+use Rattle.ir_context.proofs.Hierarchy.Listing.{vars_kept}
 use Rattle.candidate_eval.specs.declared.eval.certainty.Certainty.TheVariants.{Yes}
 use Rattle.candidate_eval.specs.Builtins.Callable.{Callable, Calls, CalledWith, Excluded, IsCallable, Refused as NotCalled, Undetermined, callable_of}
 use Rattle.candidate_eval.specs.Outcomes.Certainties.{AMBIGUOUS}

@@ -1,24 +1,24 @@
 -- Steps of the rule for what can be called.
 use Rattle.std.proofs.Common.{◌≡◌, ℕ, [], ◌∷◌, List, Bool, true, false, Option, Some, None, refl, sym, ap, ◌∙◌}
 use Rattle.std.specs.Prelude.{if◌then◌else◌}
-use Rattle.candidate_ir.specs.declared.ir.kinds.Args.{Args}
-use Rattle.candidate_ir.specs.declared.ir.kinds.GenericArg.TheVariants as G
-use Rattle.candidate_ir.specs.declared.ir.kinds.GoalSource.TheVariants.{ImplWhereBound}
-use Rattle.candidate_ir.specs.declared.ir.kinds.PredicatePolarity.TheVariants.{Positive}
-use Rattle.candidate_ir.specs.declared.ir.kinds.TraitId.{TraitId}
-use Rattle.candidate_ir.specs.declared.ir.kinds.Ty.{Ty}
-use Rattle.candidate_ir.specs.declared.ir.unify.RightSide.TheVariants as R
-use Rattle.candidate_ir.specs.Syntax.Binders.{escapes}
-use Rattle.candidate_ir.specs.Declarations.Context.{Context, Grows}
-use Rattle.candidate_ir.specs.Instantiation.Folding.{substituted, substituted_tree}
-use Rattle.candidate_ir.specs.Instantiation.Opening.{opened_tree}
-use Rattle.candidate_ir.specs.Unification.Substitutions.{alone}
-use Rattle.candidate_ir.specs.Syntax.Trees.{Kind, TypeKind, Forest, none, tree, Tree, holds, is_param, tree_holds}
-use Rattle.candidate_ir.specs.Unification.Unify.{may_unify}
-use Rattle.candidate_ir.specs.Syntax.Words.{IsArgs, IsTy, args_forest, list_forest, ty_tree}
-use Rattle.candidate_ir.proofs.Growth.Kept.{args-kept, ty-kept}
-use Rattle.candidate_ir.proofs.Instantiation.Folding.{substituted-nothing}
-use Rattle.candidate_ir.proofs.Syntax.Rows.{row-single}
+use Rattle.ir_trees.specs.declared.ir.kinds.Args.{Args}
+use Rattle.ir_trees.specs.declared.ir.kinds.GenericArg.TheVariants as G
+use Rattle.ir_trees.specs.declared.ir.kinds.GoalSource.TheVariants.{ImplWhereBound}
+use Rattle.ir_trees.specs.declared.ir.kinds.PredicatePolarity.TheVariants.{Positive}
+use Rattle.ir_trees.specs.declared.ir.kinds.TraitId.{TraitId}
+use Rattle.ir_trees.specs.declared.ir.kinds.Ty.{Ty}
+use Rattle.ir_trees.specs.declared.ir.unify.RightSide.TheVariants as R
+use Rattle.ir_trees.specs.Syntax.Binders.{escapes}
+use Rattle.ir_trees.specs.Declarations.Context.{Context, Grows}
+use Rattle.ir_trees.specs.Instantiation.Folding.{substituted, substituted_tree}
+use Rattle.ir_trees.specs.Instantiation.Opening.{opened_tree}
+use Rattle.ir_trees.specs.Unification.Substitutions.{alone}
+use Rattle.ir_trees.specs.Syntax.Trees.{Kind, TypeKind, Forest, none, tree, Tree, holds, is_param, tree_holds}
+use Rattle.ir_trees.specs.Unification.Unify.{may_unify}
+use Rattle.ir_trees.specs.Syntax.Words.{IsArgs, IsTy, args_forest, list_forest, ty_tree}
+use Rattle.ir_trees.proofs.Growth.Kept.{args-kept, ty-kept}
+use Rattle.ir_trees.proofs.Instantiation.Folding.{substituted-nothing}
+use Rattle.ir_trees.proofs.Syntax.Rows.{row-single}
 use Rattle.candidate_eval.specs.declared.eval.certainty.Certainty.TheVariants.{Yes}
 use Rattle.candidate_eval.specs.declared.eval.variable.VariableKind.{VariableKind}
 use Rattle.candidate_eval.specs.declared.eval.variable.VariableKind.TheVariants.{Term, Region}

@@ -1,21 +1,21 @@
 -- What is read of an impl, where the context has grown, and the steps of its rule.
 use Rattle.std.proofs.Common.{◌≡◌, true, ap, refl, sym, subst, ◌∙◌, List, [], ◌∷◌, map, Option, Some, None, slice_index_or}
 use Rattle.std.specs.Prelude.{IfSome}
-use Rattle.candidate_ir.specs.declared.decl.contents.ImplId.{ImplId}
-use Rattle.candidate_ir.specs.declared.ir.kinds.Args.{Args}
-use Rattle.candidate_ir.specs.declared.ir.kinds.Clause.{Clause}
-use Rattle.candidate_ir.specs.Declarations.Context.{Context, Grows, parameter_kind}
-use Rattle.candidate_ir.specs.Declarations.Contents.{Impl}
-use Rattle.candidate_ir.specs.Declarations.Declaring.{impl_at}
-use Rattle.candidate_ir.specs.Instantiation.Folding.{lacks_argument}
-use Rattle.candidate_ir.specs.Declarations.Lookups.{maybe}
-use Rattle.candidate_ir.specs.Instantiation.Owned.{ClausesAreOwned, is_unsolved}
-use Rattle.candidate_ir.specs.Syntax.Trees.{Forest, Tree, tree_holds}
-use Rattle.candidate_ir.specs.Validity.WellFormed.{ImplIsGiven}
-use Rattle.candidate_ir.specs.Syntax.Words.{IsArgs, args_forest, clause_tree}
-use Rattle.candidate_ir.specs.Declarations.Worlds.{kinds_of}
-use Rattle.candidate_ir.proofs.Instantiation.Joining.{clause-kept}
-use Rattle.candidate_ir.proofs.Growth.Kept.{args-kept}
+use Rattle.ir_trees.specs.declared.decl.contents.ImplId.{ImplId}
+use Rattle.ir_trees.specs.declared.ir.kinds.Args.{Args}
+use Rattle.ir_trees.specs.declared.ir.kinds.Clause.{Clause}
+use Rattle.ir_trees.specs.Declarations.Context.{Context, Grows, parameter_kind}
+use Rattle.ir_trees.specs.Declarations.Contents.{Impl}
+use Rattle.ir_trees.specs.Declarations.Declaring.{impl_at}
+use Rattle.ir_trees.specs.Instantiation.Folding.{lacks_argument}
+use Rattle.ir_trees.specs.Declarations.Lookups.{maybe}
+use Rattle.ir_trees.specs.Instantiation.Owned.{ClausesAreOwned, is_unsolved}
+use Rattle.ir_trees.specs.Syntax.Trees.{Forest, Tree, tree_holds}
+use Rattle.ir_trees.specs.Validity.WellFormed.{ImplIsGiven}
+use Rattle.ir_trees.specs.Syntax.Words.{IsArgs, args_forest, clause_tree}
+use Rattle.ir_trees.specs.Declarations.Worlds.{kinds_of}
+use Rattle.ir_folds.proofs.Instantiation.Joining.{clause-kept}
+use Rattle.ir_trees.proofs.Growth.Kept.{args-kept}
 use Rattle.candidate_eval.specs.declared.eval.source.CandidateSource.{CandidateSource}
 use Rattle.candidate_eval.specs.declared.eval.mode.TypingMode.{TypingMode}
 use Rattle.candidate_eval.specs.Derivations.ImplRules.{TraitGoal, declared_steps, impl_steps}

@@ -3,21 +3,21 @@ use Rattle.std.proofs.Common.{◌≡◌, ℕ, zero, suc, Bool, true, false, not,
 use Rattle.std.specs.Prelude.{IfSome, option_map, slice_get}
 use Rattle.std.specs.List.{list_any}
 use Rattle.std.proofs.lemmas.Option.{slice_get-map}
-use Rattle.candidate_ir.specs.declared.decl.contents.LangItem.{LangItem}
-use Rattle.candidate_ir.specs.declared.decl.contents.LangItem.TheVariants as L
-use Rattle.candidate_ir.specs.declared.decl.definition.DefinitionKind.{DefinitionKind}
-use Rattle.candidate_ir.specs.declared.decl.definition.DefinitionKind.TheVariants as D
-use Rattle.candidate_ir.specs.declared.ir.kinds.TraitId.{TraitId}
-use Rattle.candidate_ir.specs.declared.ir.kinds.VarKind.{VarKind}
-use Rattle.candidate_ir.specs.declared.ir.kinds.VarKind.TheVariants as V
-use Rattle.candidate_ir.specs.Declarations.Context.{Context, begins_with_type, definition_of, is_declared_trait, is_empty, is_trait, parameter_kind, world}
-use Rattle.candidate_ir.specs.Declarations.Declaration.{Declaration}
-use Rattle.candidate_ir.specs.Declarations.Declaring.{item_number, takes_a_type}
-use Rattle.candidate_ir.specs.Validity.Faults.{all_items, impl_misnames, item_has_wrong_arity, item_misnames, lacks_item_parameters, trait_lacks_item_parameters}
-use Rattle.candidate_ir.specs.Syntax.Trees.{TypeKind}
-use Rattle.candidate_ir.specs.Validity.WellFormed.{IsWellFormedTable}
-use Rattle.candidate_ir.specs.Declarations.Worlds.{TraitSort, parameters, parameters_of}
-use Rattle.candidate_ir.proofs.Instantiation.Folding.{or-left, or-right}
+use Rattle.ir_trees.specs.declared.decl.contents.LangItem.{LangItem}
+use Rattle.ir_trees.specs.declared.decl.contents.LangItem.TheVariants as L
+use Rattle.ir_trees.specs.declared.decl.definition.DefinitionKind.{DefinitionKind}
+use Rattle.ir_trees.specs.declared.decl.definition.DefinitionKind.TheVariants as D
+use Rattle.ir_trees.specs.declared.ir.kinds.TraitId.{TraitId}
+use Rattle.ir_trees.specs.declared.ir.kinds.VarKind.{VarKind}
+use Rattle.ir_trees.specs.declared.ir.kinds.VarKind.TheVariants as V
+use Rattle.ir_trees.specs.Declarations.Context.{Context, begins_with_type, definition_of, is_declared_trait, is_empty, is_trait, parameter_kind, world}
+use Rattle.ir_trees.specs.Declarations.Declaration.{Declaration}
+use Rattle.ir_trees.specs.Declarations.Declaring.{item_number, takes_a_type}
+use Rattle.ir_trees.specs.Validity.Faults.{all_items, impl_misnames, item_has_wrong_arity, item_misnames, lacks_item_parameters, trait_lacks_item_parameters}
+use Rattle.ir_trees.specs.Syntax.Trees.{TypeKind}
+use Rattle.ir_trees.specs.Validity.WellFormed.{IsWellFormedTable}
+use Rattle.ir_trees.specs.Declarations.Worlds.{TraitSort, parameters, parameters_of}
+use Rattle.ir_trees.proofs.Instantiation.Folding.{or-left, or-right}
 use Rattle.candidate_assembly.specs.Goals.TraitGoals.{is_item, is_trait as is_trait_numbered, item_trait}
 
 -- what no element of a list passes

@@ -2,8 +2,8 @@
 use Rattle.std.proofs.Common.{◌≡◌, ◌<◌, ◌≤◌, ◌+◌, ℕ, sym, ap, ◌∙◌, List, length, get_or, Option, Some, None}
 use Rattle.std.proofs.Math.ListN.{drop, drop_of_length-le}
 use Rattle.std.proofs.lemmas.List.{drop_more}
-use Rattle.candidate_ir.specs.declared.decl.contents.LangItem.{LangItem}
-use Rattle.candidate_ir.specs.Declarations.Context.{Context}
+use Rattle.ir_trees.specs.declared.decl.contents.LangItem.{LangItem}
+use Rattle.ir_trees.specs.Declarations.Context.{Context}
 use Rattle.candidate_assembly.specs.Answers.Assembled.{or_else, rule_among}
 use Rattle.candidate_assembly.specs.Goals.Kinds.{BuiltinRule}
 use Rattle.candidate_assembly.specs.Rules.Language.{rule_by_item}

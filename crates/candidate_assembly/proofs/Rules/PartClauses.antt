@@ -3,25 +3,25 @@ use Rattle.std.proofs.Common.{◌≡◌, ℕ, zero, suc, ◌+◌, List, [], ◌�
 use Rattle.std.specs.Prelude.{◌||◌, All, IfSome}
 use Rattle.std.specs.List.{flat_map}
 use Rattle.std.specs.Option.{unwrap_or}
-use Rattle.candidate_ir.specs.declared.ir.heads.ConstHead.TheVariants as C
-use Rattle.candidate_ir.specs.declared.ir.heads.Head.{Head}
-use Rattle.candidate_ir.specs.declared.ir.heads.Head.TheVariants as H
-use Rattle.candidate_ir.specs.declared.ir.kinds.Args.{Args}
-use Rattle.candidate_ir.specs.declared.ir.kinds.PredicatePolarity.{PredicatePolarity}
-use Rattle.candidate_ir.specs.declared.ir.kinds.TraitId.{TraitId}
-use Rattle.candidate_ir.specs.declared.ir.kinds.TraitPredicate.{TraitPredicate}
-use Rattle.candidate_ir.specs.declared.ir.kinds.Ty.{Ty}
-use Rattle.candidate_ir.specs.declared.ir.kinds.VarKind.{VarKind}
-use Rattle.candidate_ir.specs.declared.ir.kinds.VarKind.TheVariants as V
-use Rattle.candidate_ir.specs.Syntax.Binders.{escapes, is_beyond}
-use Rattle.candidate_ir.specs.Declarations.Context.{Context, Grows}
-use Rattle.candidate_ir.specs.Instantiation.Folding.{argument, put, substituted, substituted_tree}
-use Rattle.candidate_ir.specs.Unification.Substitutions.{alone}
-use Rattle.candidate_ir.specs.Hierarchy.Supers.{after_first}
-use Rattle.candidate_ir.specs.Syntax.Trees.{Kind, ConstantKind, RegionKind, Forest, none, tree, Tree, binders_of, holds, is_param, tree_holds}
-use Rattle.candidate_ir.specs.Syntax.Words.{IsArgs, IsTy, args_forest, ty_tree}
-use Rattle.candidate_ir.proofs.Instantiation.Folding.{begin, or-left, or-right, substituted-nothing}
-use Rattle.candidate_ir.proofs.Growth.Kept.{args-kept, ty-kept}
+use Rattle.ir_trees.specs.declared.ir.heads.ConstHead.TheVariants as C
+use Rattle.ir_trees.specs.declared.ir.heads.Head.{Head}
+use Rattle.ir_trees.specs.declared.ir.heads.Head.TheVariants as H
+use Rattle.ir_trees.specs.declared.ir.kinds.Args.{Args}
+use Rattle.ir_trees.specs.declared.ir.kinds.PredicatePolarity.{PredicatePolarity}
+use Rattle.ir_trees.specs.declared.ir.kinds.TraitId.{TraitId}
+use Rattle.ir_trees.specs.declared.ir.kinds.TraitPredicate.{TraitPredicate}
+use Rattle.ir_trees.specs.declared.ir.kinds.Ty.{Ty}
+use Rattle.ir_trees.specs.declared.ir.kinds.VarKind.{VarKind}
+use Rattle.ir_trees.specs.declared.ir.kinds.VarKind.TheVariants as V
+use Rattle.ir_trees.specs.Syntax.Binders.{escapes, is_beyond}
+use Rattle.ir_trees.specs.Declarations.Context.{Context, Grows}
+use Rattle.ir_trees.specs.Instantiation.Folding.{argument, put, substituted, substituted_tree}
+use Rattle.ir_trees.specs.Unification.Substitutions.{alone}
+use Rattle.ir_trees.specs.Hierarchy.Supers.{after_first}
+use Rattle.ir_trees.specs.Syntax.Trees.{Kind, ConstantKind, RegionKind, Forest, none, tree, Tree, binders_of, holds, is_param, tree_holds}
+use Rattle.ir_trees.specs.Syntax.Words.{IsArgs, IsTy, args_forest, ty_tree}
+use Rattle.ir_trees.proofs.Instantiation.Folding.{begin, or-left, or-right, substituted-nothing}
+use Rattle.ir_trees.proofs.Growth.Kept.{args-kept, ty-kept}
 use Rattle.candidate_eval.specs.Interface.Evaluators.{kinds_listed, rigid, with_rigid}
 use Rattle.candidate_eval.specs.Judges.States.{State, placeholder, placeholders}
 use Rattle.candidate_eval.proofs.Marks.Closed.{closed, closed-parts, closed-shift}

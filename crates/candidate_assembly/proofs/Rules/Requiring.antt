@@ -1,11 +1,11 @@
 -- What a rule requires besides the clause that it matches becomes pending.
 use Rattle.std.proofs.Common.{◌≡◌, ℕ, suc, ◌+◌, ◌<◌, ◌≤◌, refl, sym, ap, subst, ◌∙◌, Result, List, [], ◌∷◌, ◌++◌, append_assoc, arith, get_or, length, map, take}
 use Rattle.std.proofs.lemmas.List.{append-nil, map_more, take_all}
-use Rattle.candidate_ir.specs.declared.ir.kinds.ParamEnv.{ParamEnv}
-use Rattle.candidate_ir.specs.Declarations.Context.{Context, Grows}
-use Rattle.candidate_ir.specs.Syntax.Trees.{Forest, Tree, is_param, none, tree_holds}
-use Rattle.candidate_ir.specs.Syntax.Words.{IsClause, IsParamEnv, clause_tree, env_forest}
-use Rattle.candidate_ir.proofs.Instantiation.Joining.{clause-kept}
+use Rattle.ir_trees.specs.declared.ir.kinds.ParamEnv.{ParamEnv}
+use Rattle.ir_trees.specs.Declarations.Context.{Context, Grows}
+use Rattle.ir_trees.specs.Syntax.Trees.{Forest, Tree, is_param, none, tree_holds}
+use Rattle.ir_trees.specs.Syntax.Words.{IsClause, IsParamEnv, clause_tree, env_forest}
+use Rattle.ir_folds.proofs.Instantiation.Joining.{clause-kept}
 use Rattle.candidate_eval.specs.declared.eval.certainty.Certainty.{Certainty}
 use Rattle.candidate_eval.specs.declared.eval.certainty.Certainty.TheVariants.{Yes}
 use Rattle.candidate_eval.specs.declared.eval.refusal.NoSolutionOrStop.{NoSolutionOrStop}

@@ -1,21 +1,21 @@
 -- Where clauses of traits, with arguments in the place of parameters.
 use Rattle.std.proofs.Common.{◌≡◌, zero, suc, arith, Bool, false, List, [], ◌∷◌, map, refl, sym, ap, subst, ◌∙◌}
 use Rattle.std.specs.List.{flat_map}
-use Rattle.candidate_ir.specs.declared.ir.kinds.Args.{Args}
-use Rattle.candidate_ir.specs.declared.ir.kinds.Clause.{Clause}
-use Rattle.candidate_ir.specs.declared.ir.kinds.GoalSource.TheVariants.{Misc}
+use Rattle.ir_trees.specs.declared.ir.kinds.Args.{Args}
+use Rattle.ir_trees.specs.declared.ir.kinds.Clause.{Clause}
+use Rattle.ir_trees.specs.declared.ir.kinds.GoalSource.TheVariants.{Misc}
 use Rattle.candidate_eval.specs.declared.eval.certainty.Certainty.TheVariants.{Yes}
 use Rattle.candidate_eval.specs.Derivations.ImplRules.{TraitGoal}
 use Rattle.candidate_eval.specs.Judges.States.{Env}
 use Rattle.candidate_assembly.specs.Rules.BuiltinRules.{misc, positive}
 use Rattle.candidate_assembly.specs.Answers.Telling.{HaveNoParameter, flat_rule}
-use Rattle.candidate_ir.specs.Declarations.Context.{Context, Grows}
-use Rattle.candidate_ir.specs.Instantiation.Owned.{ClausesAreOwned}
-use Rattle.candidate_ir.specs.Instantiation.Folding.{lacks_argument, substituted_tree}
-use Rattle.candidate_ir.specs.Syntax.Trees.{Forest, Tree, is_param, tree_holds}
-use Rattle.candidate_ir.specs.Syntax.Words.{IsArgs, IsClause, args_forest, clause_tree}
-use Rattle.candidate_ir.proofs.Instantiation.Joining.{clause-kept}
-use Rattle.candidate_ir.proofs.Growth.Kept.{args-kept}
+use Rattle.ir_trees.specs.Declarations.Context.{Context, Grows}
+use Rattle.ir_trees.specs.Instantiation.Owned.{ClausesAreOwned}
+use Rattle.ir_trees.specs.Instantiation.Folding.{lacks_argument, substituted_tree}
+use Rattle.ir_trees.specs.Syntax.Trees.{Forest, Tree, is_param, tree_holds}
+use Rattle.ir_trees.specs.Syntax.Words.{IsArgs, IsClause, args_forest, clause_tree}
+use Rattle.ir_folds.proofs.Instantiation.Joining.{clause-kept}
+use Rattle.ir_trees.proofs.Growth.Kept.{args-kept}
 
 abbrev pub with_values : List Tree → Forest → Clause → List Tree
 with_values ts args x = substituted_tree args (clause_tree ts x) ∷ []

@@ -2,26 +2,26 @@
 use Rattle.std.proofs.Common.{◌≡◌, ◌+◌, ◌==◌, ℕ, zero, suc, Bool, true, false, Option, Some, None, List, [], ◌∷◌, map, refl, sym, ap, subst, ◌∙◌, arith, nat_le, if◌then◌else◌}
 use Rattle.std.specs.List.{flat_map}
 use Rattle.std.specs.Option.{unwrap_or}
-use Rattle.candidate_ir.specs.declared.ir.heads.ConstHead.TheVariants as C
-use Rattle.candidate_ir.specs.declared.ir.heads.Head.{Head}
-use Rattle.candidate_ir.specs.declared.ir.heads.Head.TheVariants as H
-use Rattle.candidate_ir.specs.declared.ir.heads.ListHead.{ListHead}
-use Rattle.candidate_ir.specs.declared.ir.heads.ListHead.TheVariants as LH
-use Rattle.candidate_ir.specs.declared.ir.heads.PartHead.TheVariants as P
-use Rattle.candidate_ir.specs.declared.ir.heads.PredHead.TheVariants as PH
-use Rattle.candidate_ir.specs.declared.ir.heads.VariableSort.{VariableSort}
-use Rattle.candidate_ir.specs.declared.ir.heads.VariableSort.TheVariants as VS
-use Rattle.candidate_ir.specs.declared.ir.kinds.RegionKind.TheVariants as R
-use Rattle.candidate_ir.specs.Declarations.References.{FitsAmong}
-use Rattle.candidate_ir.specs.Declarations.Worlds.{World, child_kinds, clause_kinds, joined, kinds_of, parameters, AssociatedTypeSort, TraitSort}
-use Rattle.candidate_ir.specs.Hierarchy.Elaboration.{first_children, implied, later, later_head, renumbered, under_binder, variables_of}
-use Rattle.candidate_ir.specs.Hierarchy.Supers.{after_first}
-use Rattle.candidate_ir.specs.Instantiation.Folding.{argument, fold, further, lacks_argument, leaf, moved, put, shift, substituted, substituted_tree}
-use Rattle.candidate_ir.specs.Syntax.Binders.{escapes, is_beyond}
-use Rattle.candidate_ir.specs.Syntax.Trees.{Kind, BinderKind, ClauseKind, PredicateKind, TypeKind, Forest, none, tree, Tree, binders_of, count, holds, join, kind_of, list_kind, sort_kind, tree_holds}
-use Rattle.candidate_ir.specs.Unification.Substitutions.{alone}
-use Rattle.candidate_ir.proofs.Instantiation.Folding.{HeadAnswers, begin, by_head}
-use Rattle.candidate_ir.proofs.Instantiation.Joining.{binder-head}
+use Rattle.ir_trees.specs.declared.ir.heads.ConstHead.TheVariants as C
+use Rattle.ir_trees.specs.declared.ir.heads.Head.{Head}
+use Rattle.ir_trees.specs.declared.ir.heads.Head.TheVariants as H
+use Rattle.ir_trees.specs.declared.ir.heads.ListHead.{ListHead}
+use Rattle.ir_trees.specs.declared.ir.heads.ListHead.TheVariants as LH
+use Rattle.ir_trees.specs.declared.ir.heads.PartHead.TheVariants as P
+use Rattle.ir_trees.specs.declared.ir.heads.PredHead.TheVariants as PH
+use Rattle.ir_trees.specs.declared.ir.heads.VariableSort.{VariableSort}
+use Rattle.ir_trees.specs.declared.ir.heads.VariableSort.TheVariants as VS
+use Rattle.ir_trees.specs.declared.ir.kinds.RegionKind.TheVariants as R
+use Rattle.ir_trees.specs.Declarations.References.{FitsAmong}
+use Rattle.ir_trees.specs.Declarations.Worlds.{World, child_kinds, clause_kinds, joined, kinds_of, parameters, AssociatedTypeSort, TraitSort}
+use Rattle.ir_trees.specs.Hierarchy.Elaboration.{first_children, implied, later, later_head, renumbered, under_binder, variables_of}
+use Rattle.ir_trees.specs.Hierarchy.Supers.{after_first}
+use Rattle.ir_trees.specs.Instantiation.Folding.{argument, fold, further, lacks_argument, leaf, moved, put, shift, substituted, substituted_tree}
+use Rattle.ir_trees.specs.Syntax.Binders.{escapes, is_beyond}
+use Rattle.ir_trees.specs.Syntax.Trees.{Kind, BinderKind, ClauseKind, PredicateKind, TypeKind, Forest, none, tree, Tree, binders_of, count, holds, join, kind_of, list_kind, sort_kind, tree_holds}
+use Rattle.ir_trees.specs.Unification.Substitutions.{alone}
+use Rattle.ir_trees.proofs.Instantiation.Folding.{HeadAnswers, begin, by_head}
+use Rattle.ir_folds.proofs.Instantiation.Joining.{binder-head}
 use Rattle.candidate_eval.specs.Builtins.Callable.{all_but_last}
 use Rattle.candidate_eval.specs.Dynamic.Required.{clause_head_of, each_of, is_projection_bound, own_bound, own_bounds, said_of, with_arguments}
 use Rattle.candidate_eval.specs.Judges.Soundness.{AreTreesOf, Live, is_strange}

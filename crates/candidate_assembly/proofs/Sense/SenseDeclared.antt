@@ -5,38 +5,38 @@ use Rattle.std.specs.List.{All, list_any}
 use Rattle.std.specs.Prelude.{IfSome}
 use Rattle.std.proofs.lemmas.List.Elements.{All-cons, All-head, All-nil, All-tail, All-weaker}
 use Rattle.std.proofs.lemmas.Option.{slice_get_within}
-use Rattle.candidate_ir.specs.declared.decl.contents.Sizedness.{Sizedness}
-use Rattle.candidate_ir.specs.declared.decl.contents.Sizedness.TheVariants as Size
-use Rattle.candidate_ir.specs.declared.decl.definition.DefinitionKind.{DefinitionKind}
-use Rattle.candidate_ir.specs.declared.decl.definition.DefinitionKind.TheVariants as D
-use Rattle.candidate_ir.specs.declared.ir.heads.Head.{Head}
-use Rattle.candidate_ir.specs.declared.ir.heads.Head.TheVariants as H
-use Rattle.candidate_ir.specs.declared.ir.heads.PartHead.{PartHead}
-use Rattle.candidate_ir.specs.declared.ir.heads.PartHead.TheVariants as P
-use Rattle.candidate_ir.specs.declared.ir.kinds.Binder.{Binder}
-use Rattle.candidate_ir.specs.declared.ir.kinds.Clause.{Clause}
-use Rattle.candidate_ir.specs.declared.ir.kinds.FnSig.{FnSig}
-use Rattle.candidate_ir.specs.declared.ir.kinds.Ty.{Ty}
-use Rattle.candidate_ir.specs.declared.ir.kinds.VarKind.{VarKind}
-use Rattle.candidate_ir.specs.Syntax.Binders.{escapes, tree_escapes}
-use Rattle.candidate_ir.specs.Declarations.Contents.{AdtContents, TraitContents}
-use Rattle.candidate_ir.specs.Declarations.Context.{Context}
-use Rattle.candidate_ir.specs.Declarations.Declaration.{Declaration}
-use Rattle.candidate_ir.specs.Declarations.Declaring.{adt_at, adt_place, no_place, place_of, trait_at, trait_place}
-use Rattle.candidate_ir.specs.Declarations.Lookups.{constraint, definition, fn_sig, hidden_type, kind_of_declared}
-use Rattle.candidate_ir.specs.Validity.Faults.{all_that_is_held}
-use Rattle.candidate_ir.specs.Validity.Held.{adt_held, definition_held, definitions_held, held_clause, held_clauses, held_sig, held_type, held_types, impls_held, option_held, trait_held}
-use Rattle.candidate_ir.specs.Validity.Misplaced.{has_self, kinds_of_declared, kinds_of_owner, with_self}
-use Rattle.candidate_ir.specs.Syntax.Nodes.{tree_at}
-use Rattle.candidate_ir.specs.Unification.Substitutions.{alone, is_made}
-use Rattle.candidate_ir.specs.Syntax.Trees.{ArgumentsKind, Forest, Tree, binders_of, holds, is_list, kind_of, none, put, row}
-use Rattle.candidate_ir.specs.Validity.WellFormed.{AreGiven, IsWellFormedTable, SignatureFits}
-use Rattle.candidate_ir.specs.Syntax.Words.{args_forest, clause_tree, ty_tree, vars_tree}
-use Rattle.candidate_ir.proofs.Instantiation.Folding.{or-left, or-right}
-use Rattle.candidate_ir.proofs.Instantiation.Owned.{none-stray}
-use Rattle.candidate_ir.proofs.Syntax.Rows.{kind-of}
-use Rattle.candidate_ir.proofs.Validity.Given.{definition_given, sig_fits}
-use Rattle.candidate_ir.proofs.Validity.WellFormed.{any-of, any-right, definition-passes}
+use Rattle.ir_trees.specs.declared.decl.contents.Sizedness.{Sizedness}
+use Rattle.ir_trees.specs.declared.decl.contents.Sizedness.TheVariants as Size
+use Rattle.ir_trees.specs.declared.decl.definition.DefinitionKind.{DefinitionKind}
+use Rattle.ir_trees.specs.declared.decl.definition.DefinitionKind.TheVariants as D
+use Rattle.ir_trees.specs.declared.ir.heads.Head.{Head}
+use Rattle.ir_trees.specs.declared.ir.heads.Head.TheVariants as H
+use Rattle.ir_trees.specs.declared.ir.heads.PartHead.{PartHead}
+use Rattle.ir_trees.specs.declared.ir.heads.PartHead.TheVariants as P
+use Rattle.ir_trees.specs.declared.ir.kinds.Binder.{Binder}
+use Rattle.ir_trees.specs.declared.ir.kinds.Clause.{Clause}
+use Rattle.ir_trees.specs.declared.ir.kinds.FnSig.{FnSig}
+use Rattle.ir_trees.specs.declared.ir.kinds.Ty.{Ty}
+use Rattle.ir_trees.specs.declared.ir.kinds.VarKind.{VarKind}
+use Rattle.ir_trees.specs.Syntax.Binders.{escapes, tree_escapes}
+use Rattle.ir_trees.specs.Declarations.Contents.{AdtContents, TraitContents}
+use Rattle.ir_trees.specs.Declarations.Context.{Context}
+use Rattle.ir_trees.specs.Declarations.Declaration.{Declaration}
+use Rattle.ir_trees.specs.Declarations.Declaring.{adt_at, adt_place, no_place, place_of, trait_at, trait_place}
+use Rattle.ir_trees.specs.Declarations.Lookups.{constraint, definition, fn_sig, hidden_type, kind_of_declared}
+use Rattle.ir_trees.specs.Validity.Faults.{all_that_is_held}
+use Rattle.ir_trees.specs.Validity.Held.{adt_held, definition_held, definitions_held, held_clause, held_clauses, held_sig, held_type, held_types, impls_held, option_held, trait_held}
+use Rattle.ir_trees.specs.Validity.Misplaced.{has_self, kinds_of_declared, kinds_of_owner, with_self}
+use Rattle.ir_trees.specs.Syntax.Nodes.{tree_at}
+use Rattle.ir_trees.specs.Unification.Substitutions.{alone, is_made}
+use Rattle.ir_trees.specs.Syntax.Trees.{ArgumentsKind, Forest, Tree, binders_of, holds, is_list, kind_of, none, put, row}
+use Rattle.ir_trees.specs.Validity.WellFormed.{AreGiven, IsWellFormedTable, SignatureFits}
+use Rattle.ir_trees.specs.Syntax.Words.{args_forest, clause_tree, ty_tree, vars_tree}
+use Rattle.ir_trees.proofs.Instantiation.Folding.{or-left, or-right}
+use Rattle.ir_context.proofs.Instantiation.Owned.{none-stray}
+use Rattle.ir_trees.proofs.Syntax.Rows.{kind-of}
+use Rattle.ir_context.proofs.Validity.Given.{definition_given, sig_fits}
+use Rattle.ir_context.proofs.Validity.WellFormed.{any-of, any-right, definition-passes}
 use Rattle.candidate_eval.specs.Builtins.Callable.{declared_signature, tuple_of}
 use Rattle.candidate_eval.specs.Builtins.Tables.{optional}
 use Rattle.candidate_eval.proofs.Marks.Closed.{closed, closed-on, closed-parts}

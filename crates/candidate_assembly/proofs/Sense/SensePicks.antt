@@ -4,13 +4,13 @@ use Rattle.std.proofs.Common.{◌≡◌, ◌≤◌, ◌+◌, ℕ, Bool, true, fa
 use Rattle.std.specs.List.{All}
 use Rattle.std.proofs.Math.Nat.{le_trans}
 use Rattle.std.proofs.lemmas.List.Elements.{All-append, All-cons, All-head, All-nil, All-tail}
-use Rattle.candidate_ir.specs.declared.ir.heads.Head.{Head}
-use Rattle.candidate_ir.specs.Hierarchy.Supers.{after_first}
-use Rattle.candidate_ir.specs.Instantiation.Folds.{node}
-use Rattle.candidate_ir.specs.Instantiation.Opening.{opened}
-use Rattle.candidate_ir.specs.Syntax.Binders.{escapes, is_beyond}
-use Rattle.candidate_ir.specs.Syntax.Trees.{Forest, Kind, none, tree, Tree, binders_of, holds}
-use Rattle.candidate_ir.specs.Unification.Substitutions.{alone}
+use Rattle.ir_trees.specs.declared.ir.heads.Head.{Head}
+use Rattle.ir_trees.specs.Hierarchy.Supers.{after_first}
+use Rattle.ir_trees.specs.Instantiation.Folds.{node}
+use Rattle.ir_trees.specs.Instantiation.Opening.{opened}
+use Rattle.ir_trees.specs.Syntax.Binders.{escapes, is_beyond}
+use Rattle.ir_trees.specs.Syntax.Trees.{Forest, Kind, none, tree, Tree, binders_of, holds}
+use Rattle.ir_trees.specs.Unification.Substitutions.{alone}
 use Rattle.candidate_eval.specs.Builtins.Callable.{all_but_last, last_tree}
 use Rattle.candidate_eval.specs.Dynamic.ObjectRules.{projections_in}
 use Rattle.candidate_eval.specs.Dynamic.Objects.{IsExact, Projection}

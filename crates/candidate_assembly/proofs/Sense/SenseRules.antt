@@ -1,6 +1,6 @@
 -- A rule whose trees are of a state that makes sense: where its candidate is sure, all that is pending at its end is granted there.
 use Rattle.std.proofs.Common.{◌≡◌, refl, sym, subst}
-use Rattle.candidate_ir.specs.Unification.Substitutions.{alone}
+use Rattle.ir_trees.specs.Unification.Substitutions.{alone}
 use Rattle.candidate_eval.specs.declared.eval.certainty.Certainty.{Certainty}
 use Rattle.candidate_eval.specs.declared.eval.certainty.Certainty.TheVariants.{Yes}
 use Rattle.candidate_eval.specs.declared.eval.source.CandidateSource.{CandidateSource}

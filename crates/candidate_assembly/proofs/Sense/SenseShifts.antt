@@ -1,17 +1,17 @@
 -- Trees that come to stand under more binders, and whose variables are numbered from some number on: what is closed stays so.
 use Rattle.std.proofs.Common.{◌≡◌, ◌+◌, ◌==◌, ◌≤◌, ℕ, zero, suc, Bool, true, false, Option, Some, None, refl, sym, ◌∙◌, arith, nat_le, if◌then◌else◌}
 use Rattle.std.specs.Option.{unwrap_or}
-use Rattle.candidate_ir.specs.declared.ir.heads.ConstHead.TheVariants as C
-use Rattle.candidate_ir.specs.declared.ir.heads.Head.{Head}
-use Rattle.candidate_ir.specs.declared.ir.heads.Head.TheVariants as H
-use Rattle.candidate_ir.specs.declared.ir.kinds.BoundVar.{BoundVar}
-use Rattle.candidate_ir.specs.declared.ir.kinds.RegionKind.TheVariants as R
-use Rattle.candidate_ir.specs.Syntax.Binders.{escapes, is_beyond}
-use Rattle.candidate_ir.specs.Hierarchy.Elaboration.{later, later_head, later_leaf, renumbered}
-use Rattle.candidate_ir.specs.Instantiation.Folding.{argument, fold, further, leaf, moved, moved_leaf, put, shift, shift_tree, substituted}
-use Rattle.candidate_ir.specs.Unification.Substitutions.{alone}
-use Rattle.candidate_ir.specs.Syntax.Trees.{Forest, Tree, binders_of, holds, none, tree}
-use Rattle.candidate_ir.proofs.Instantiation.Folding.{begin}
+use Rattle.ir_trees.specs.declared.ir.heads.ConstHead.TheVariants as C
+use Rattle.ir_trees.specs.declared.ir.heads.Head.{Head}
+use Rattle.ir_trees.specs.declared.ir.heads.Head.TheVariants as H
+use Rattle.ir_trees.specs.declared.ir.kinds.BoundVar.{BoundVar}
+use Rattle.ir_trees.specs.declared.ir.kinds.RegionKind.TheVariants as R
+use Rattle.ir_trees.specs.Syntax.Binders.{escapes, is_beyond}
+use Rattle.ir_trees.specs.Hierarchy.Elaboration.{later, later_head, later_leaf, renumbered}
+use Rattle.ir_trees.specs.Instantiation.Folding.{argument, fold, further, leaf, moved, moved_leaf, put, shift, shift_tree, substituted}
+use Rattle.ir_trees.specs.Unification.Substitutions.{alone}
+use Rattle.ir_trees.specs.Syntax.Trees.{Forest, Tree, binders_of, holds, none, tree}
+use Rattle.ir_trees.proofs.Instantiation.Folding.{begin}
 use Rattle.candidate_eval.specs.Judges.Soundness.{Live, is_strange}
 use Rattle.candidate_eval.specs.Judges.States.{State}
 use Rattle.candidate_eval.proofs.Marks.Closed.{closed, closed-on, closed-parts}

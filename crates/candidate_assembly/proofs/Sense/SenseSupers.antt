@@ -3,32 +3,32 @@ use Rattle.std.proofs.Common.{◌≡◌, ◌+◌, ◌++◌, ℕ, Bool, true, fal
 use Rattle.std.specs.List.{All, filter}
 use Rattle.std.specs.Prelude.{IfSome}
 use Rattle.std.proofs.lemmas.List.Elements.{All-head, All-nil, All-tail}
-use Rattle.candidate_ir.specs.declared.ir.heads.Head.{Head}
-use Rattle.candidate_ir.specs.declared.ir.heads.Head.TheVariants as H
-use Rattle.candidate_ir.specs.declared.ir.heads.ListHead.{ListHead}
-use Rattle.candidate_ir.specs.declared.ir.heads.ListHead.TheVariants as LH
-use Rattle.candidate_ir.specs.declared.ir.heads.PartHead.TheVariants as P
-use Rattle.candidate_ir.specs.declared.ir.heads.PredHead.TheVariants as PH
-use Rattle.candidate_ir.specs.declared.ir.heads.VariableSort.{VariableSort}
-use Rattle.candidate_ir.specs.declared.ir.heads.VariableSort.TheVariants as V
-use Rattle.candidate_ir.specs.declared.ir.kinds.Clause.{Clause}
-use Rattle.candidate_ir.specs.Syntax.Binders.{escapes, is_beyond}
-use Rattle.candidate_ir.specs.Declarations.Contents.{TraitContents}
-use Rattle.candidate_ir.specs.Declarations.Context.{Context, world}
-use Rattle.candidate_ir.specs.Declarations.Declaring.{trait_at}
-use Rattle.candidate_ir.specs.Declarations.References.{FitsAmong}
-use Rattle.candidate_ir.specs.Declarations.Worlds.{AssociatedTypeSort, Fits, TraitSort, World, child_kinds, clause_kinds, joined, kinds_of, parameters}
-use Rattle.candidate_ir.specs.Hierarchy.Elaboration.{AreSupertraits, Elaborates, IsElaboration, ended, first_children, implied, implied_by, is_there, renumbered, step, super_clauses, supers_if, trait_of, under_binder, unlisted, variables_of}
-use Rattle.candidate_ir.specs.Hierarchy.Supers.{after_first, supers_at}
-use Rattle.candidate_ir.specs.Hierarchy.Supertraits.{head_trait}
-use Rattle.candidate_ir.specs.Instantiation.Folding.{substituted}
-use Rattle.candidate_ir.specs.Unification.Substitutions.{alone}
-use Rattle.candidate_ir.specs.Syntax.Nodes.{kind_at}
-use Rattle.candidate_ir.specs.Syntax.Trees.{BinderKind, ClauseKind, Forest, Kind, PredicateKind, Tree, binders_of, count, holds, join, kind_of, list_kind, none, sort_kind, tree, TypeKind}
-use Rattle.candidate_ir.specs.Validity.WellFormed.{IsWellFormedTable}
-use Rattle.candidate_ir.specs.Syntax.Words.{ClauseListFits, clause_tree}
-use Rattle.candidate_ir.proofs.Kinding.References.{fit-at}
-use Rattle.candidate_ir.proofs.Syntax.Rows.{kind-of}
+use Rattle.ir_trees.specs.declared.ir.heads.Head.{Head}
+use Rattle.ir_trees.specs.declared.ir.heads.Head.TheVariants as H
+use Rattle.ir_trees.specs.declared.ir.heads.ListHead.{ListHead}
+use Rattle.ir_trees.specs.declared.ir.heads.ListHead.TheVariants as LH
+use Rattle.ir_trees.specs.declared.ir.heads.PartHead.TheVariants as P
+use Rattle.ir_trees.specs.declared.ir.heads.PredHead.TheVariants as PH
+use Rattle.ir_trees.specs.declared.ir.heads.VariableSort.{VariableSort}
+use Rattle.ir_trees.specs.declared.ir.heads.VariableSort.TheVariants as V
+use Rattle.ir_trees.specs.declared.ir.kinds.Clause.{Clause}
+use Rattle.ir_trees.specs.Syntax.Binders.{escapes, is_beyond}
+use Rattle.ir_trees.specs.Declarations.Contents.{TraitContents}
+use Rattle.ir_trees.specs.Declarations.Context.{Context, world}
+use Rattle.ir_trees.specs.Declarations.Declaring.{trait_at}
+use Rattle.ir_trees.specs.Declarations.References.{FitsAmong}
+use Rattle.ir_trees.specs.Declarations.Worlds.{AssociatedTypeSort, Fits, TraitSort, World, child_kinds, clause_kinds, joined, kinds_of, parameters}
+use Rattle.ir_trees.specs.Hierarchy.Elaboration.{AreSupertraits, Elaborates, IsElaboration, ended, first_children, implied, implied_by, is_there, renumbered, step, super_clauses, supers_if, trait_of, under_binder, unlisted, variables_of}
+use Rattle.ir_trees.specs.Hierarchy.Supers.{after_first, supers_at}
+use Rattle.ir_trees.specs.Hierarchy.Supertraits.{head_trait}
+use Rattle.ir_trees.specs.Instantiation.Folding.{substituted}
+use Rattle.ir_trees.specs.Unification.Substitutions.{alone}
+use Rattle.ir_trees.specs.Syntax.Nodes.{kind_at}
+use Rattle.ir_trees.specs.Syntax.Trees.{BinderKind, ClauseKind, Forest, Kind, PredicateKind, Tree, binders_of, count, holds, join, kind_of, list_kind, none, sort_kind, tree, TypeKind}
+use Rattle.ir_trees.specs.Validity.WellFormed.{IsWellFormedTable}
+use Rattle.ir_trees.specs.Syntax.Words.{ClauseListFits, clause_tree}
+use Rattle.ir_trees.proofs.Kinding.References.{fit-at}
+use Rattle.ir_trees.proofs.Syntax.Rows.{kind-of}
 use Rattle.candidate_eval.specs.Builtins.Callable.{all_but_last}
 use Rattle.candidate_eval.specs.Dynamic.Required.{each_of}
 use Rattle.candidate_eval.specs.Judges.Soundness.{AreTreesOf, Live, is_strange}

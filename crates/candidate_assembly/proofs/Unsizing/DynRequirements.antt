@@ -4,31 +4,31 @@ use Rattle.std.specs.Prelude.{◌||◌}
 use Rattle.std.proofs.lemmas.List.{map-append, map_more, map_push, take_all}
 use Rattle.std.proofs.lemmas.List.Elements.{All-cons, All-nil, All-push}
 use Rattle.std.proofs.lemmas.Simd.{map-map}
-use Rattle.candidate_ir.specs.declared.ir.heads.ClauseHead.TheVariants as Cl
-use Rattle.candidate_ir.specs.declared.ir.kinds.Binder.{Binder}
-use Rattle.candidate_ir.specs.declared.ir.kinds.Clause.{Clause}
-use Rattle.candidate_ir.specs.declared.ir.kinds.ClauseKind.{ClauseKind}
-use Rattle.candidate_ir.specs.declared.ir.kinds.ClauseKind.TheVariants as K
-use Rattle.candidate_ir.specs.declared.ir.kinds.GoalSource.{GoalSource}
-use Rattle.candidate_ir.specs.declared.ir.kinds.GoalSource.TheVariants.{ImplWhereBound, Misc}
-use Rattle.candidate_ir.specs.declared.ir.kinds.Pred.{Pred}
-use Rattle.candidate_ir.specs.declared.ir.kinds.Preds.{Preds}
-use Rattle.candidate_ir.specs.declared.ir.kinds.Region.{Region}
-use Rattle.candidate_ir.specs.declared.ir.kinds.TraitId.{TraitId}
-use Rattle.candidate_ir.specs.declared.ir.kinds.Ty.{Ty}
-use Rattle.candidate_ir.specs.declared.ir.kinds.Vars.{Vars}
-use Rattle.candidate_ir.specs.Declarations.Context.{Context, Grows, world}
-use Rattle.candidate_ir.specs.Syntax.Nodes.{kind_at, tree_at}
-use Rattle.candidate_ir.specs.Declarations.References.{Takes}
-use Rattle.candidate_ir.specs.Unification.Substitutions.{alone}
-use Rattle.candidate_ir.specs.Syntax.Trees.{Kind, TypeKind, BinderKind, RegionKind, PredicateKind, Forest, none, tree, Tree, holds, is_param, kind_of, tree_holds}
-use Rattle.candidate_ir.specs.Syntax.Words.{ClauseFits, IsClause, IsPred, IsRegion, IsTy, IsVars, PredListFits, binder_tree, clause_kind_tree, clause_tree, pred_list_forest, pred_tree, preds_forest, region_tree, ty_tree, vars_tree}
-use Rattle.candidate_ir.specs.Declarations.Worlds.{World}
-use Rattle.candidate_ir.proofs.Instantiation.Folding.{or-left, or-right}
-use Rattle.candidate_ir.proofs.Instantiation.Joining.{clause-over, over}
-use Rattle.candidate_ir.proofs.Growth.Kept.{grows-refl, grows-trans, number-kept, ty-kept}
-use Rattle.candidate_ir.proofs.Syntax.Lists.{below_kind}
-use Rattle.candidate_ir.proofs.Syntax.Rows.{kind-of, row-single}
+use Rattle.ir_trees.specs.declared.ir.heads.ClauseHead.TheVariants as Cl
+use Rattle.ir_trees.specs.declared.ir.kinds.Binder.{Binder}
+use Rattle.ir_trees.specs.declared.ir.kinds.Clause.{Clause}
+use Rattle.ir_trees.specs.declared.ir.kinds.ClauseKind.{ClauseKind}
+use Rattle.ir_trees.specs.declared.ir.kinds.ClauseKind.TheVariants as K
+use Rattle.ir_trees.specs.declared.ir.kinds.GoalSource.{GoalSource}
+use Rattle.ir_trees.specs.declared.ir.kinds.GoalSource.TheVariants.{ImplWhereBound, Misc}
+use Rattle.ir_trees.specs.declared.ir.kinds.Pred.{Pred}
+use Rattle.ir_trees.specs.declared.ir.kinds.Preds.{Preds}
+use Rattle.ir_trees.specs.declared.ir.kinds.Region.{Region}
+use Rattle.ir_trees.specs.declared.ir.kinds.TraitId.{TraitId}
+use Rattle.ir_trees.specs.declared.ir.kinds.Ty.{Ty}
+use Rattle.ir_trees.specs.declared.ir.kinds.Vars.{Vars}
+use Rattle.ir_trees.specs.Declarations.Context.{Context, Grows, world}
+use Rattle.ir_trees.specs.Syntax.Nodes.{kind_at, tree_at}
+use Rattle.ir_trees.specs.Declarations.References.{Takes}
+use Rattle.ir_trees.specs.Unification.Substitutions.{alone}
+use Rattle.ir_trees.specs.Syntax.Trees.{Kind, TypeKind, BinderKind, RegionKind, PredicateKind, Forest, none, tree, Tree, holds, is_param, kind_of, tree_holds}
+use Rattle.ir_trees.specs.Syntax.Words.{ClauseFits, IsClause, IsPred, IsRegion, IsTy, IsVars, PredListFits, binder_tree, clause_kind_tree, clause_tree, pred_list_forest, pred_tree, preds_forest, region_tree, ty_tree, vars_tree}
+use Rattle.ir_trees.specs.Declarations.Worlds.{World}
+use Rattle.ir_trees.proofs.Instantiation.Folding.{or-left, or-right}
+use Rattle.ir_folds.proofs.Instantiation.Joining.{clause-over, over}
+use Rattle.ir_trees.proofs.Growth.Kept.{grows-refl, grows-trans, number-kept, ty-kept}
+use Rattle.ir_trees.proofs.Syntax.Lists.{below_kind}
+use Rattle.ir_trees.proofs.Syntax.Rows.{kind-of, row-single}
 use Rattle.candidate_eval.specs.Builtins.Callable.{all_but_last}
 use Rattle.candidate_eval.specs.Dynamic.ObjectRequirements.{first_tree}
 use Rattle.candidate_eval.specs.Dynamic.Required.{each_of}

@@ -1,12 +1,12 @@
 -- The type of the elements of arrays and slices.
 use Rattle.std.proofs.Common.{◌≡◌, refl, sym, ap, ◌∙◌, List}
-use Rattle.candidate_ir.specs.declared.ir.kinds.Const.{Const}
-use Rattle.candidate_ir.specs.declared.ir.kinds.Ty.{Ty}
-use Rattle.candidate_ir.specs.declared.ir.kinds.TyKind.TheVariants as K
-use Rattle.candidate_ir.specs.Syntax.Trees.{TypeKind, Tree, none, row}
-use Rattle.candidate_ir.specs.Syntax.Nodes.{tree_at}
-use Rattle.candidate_ir.specs.Syntax.Words.{IsTy, KindFits, kind_tree, ty_tree}
-use Rattle.candidate_ir.proofs.Syntax.Rows.{row-single}
+use Rattle.ir_trees.specs.declared.ir.kinds.Const.{Const}
+use Rattle.ir_trees.specs.declared.ir.kinds.Ty.{Ty}
+use Rattle.ir_trees.specs.declared.ir.kinds.TyKind.TheVariants as K
+use Rattle.ir_trees.specs.Syntax.Trees.{TypeKind, Tree, none, row}
+use Rattle.ir_trees.specs.Syntax.Nodes.{tree_at}
+use Rattle.ir_trees.specs.Syntax.Words.{IsTy, KindFits, kind_tree, ty_tree}
+use Rattle.ir_trees.proofs.Syntax.Rows.{row-single}
 use Rattle.candidate_eval.specs.Dynamic.ObjectRequirements.{first_tree}
 
 pub array-element : (ts : List Tree) (e : Ty) (n : Const) (t : Tree) → KindFits ts (K.Array e n) → kind_tree ts (K.Array e n) ≡ t → ty_tree ts e ≡ first_tree t.children

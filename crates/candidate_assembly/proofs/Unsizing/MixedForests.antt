@@ -1,17 +1,17 @@
 -- The trees of lists of arguments of which some come from another list.
 use Rattle.std.proofs.Common.{◌≡◌, ℕ, suc, Bool, true, false, List, [], ◌∷◌, length, map, Option, Some, refl, sym, ap, subst, ◌∙◌, arith}
 use Rattle.std.specs.Prelude.{if◌then◌else◌}
-use Rattle.candidate_ir.specs.declared.ir.kinds.Args.{Args}
-use Rattle.candidate_ir.specs.declared.ir.kinds.GenericArg.{GenericArg}
-use Rattle.candidate_ir.specs.declared.ir.kinds.GenericArg.TheVariants as G
-use Rattle.candidate_ir.specs.Hierarchy.Elaboration.{number_listed}
-use Rattle.candidate_ir.specs.Instantiation.Folds.{IsArg, arg_tree}
-use Rattle.candidate_ir.specs.Syntax.Kinds.{arg_child, numbers}
-use Rattle.candidate_ir.specs.Syntax.Nodes.{kinds_at, tree_at}
-use Rattle.candidate_ir.specs.Syntax.Trees.{Kind, TypeKind, ConstantKind, RegionKind, ArgumentsKind, Forest, none, tree, Tree, holds, is_param, kind_of, row}
-use Rattle.candidate_ir.specs.Syntax.Words.{IsArgs, ListFits, args_forest, list_forest}
-use Rattle.candidate_ir.specs.Declarations.Worlds.{kinds_of}
-use Rattle.candidate_ir.proofs.Syntax.Rows.{join-none, row-list, row-single}
+use Rattle.ir_trees.specs.declared.ir.kinds.Args.{Args}
+use Rattle.ir_trees.specs.declared.ir.kinds.GenericArg.{GenericArg}
+use Rattle.ir_trees.specs.declared.ir.kinds.GenericArg.TheVariants as G
+use Rattle.ir_trees.specs.Hierarchy.Elaboration.{number_listed}
+use Rattle.ir_trees.specs.Instantiation.Folds.{IsArg, arg_tree}
+use Rattle.ir_trees.specs.Syntax.Kinds.{arg_child, numbers}
+use Rattle.ir_trees.specs.Syntax.Nodes.{kinds_at, tree_at}
+use Rattle.ir_trees.specs.Syntax.Trees.{Kind, TypeKind, ConstantKind, RegionKind, ArgumentsKind, Forest, none, tree, Tree, holds, is_param, kind_of, row}
+use Rattle.ir_trees.specs.Syntax.Words.{IsArgs, ListFits, args_forest, list_forest}
+use Rattle.ir_trees.specs.Declarations.Worlds.{kinds_of}
+use Rattle.ir_trees.proofs.Syntax.Rows.{join-none, row-list, row-single}
 use Rattle.candidate_eval.proofs.Marks.Holds.{holds_parts}
 use Rattle.candidate_eval.proofs.Marks.Marking.{unmarked}
 use Rattle.candidate_assembly.specs.Rules.Unsizing.{mixed, mixed_list}

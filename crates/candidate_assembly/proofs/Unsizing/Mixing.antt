@@ -2,8 +2,8 @@
 use Rattle.std.proofs.Common.{◌≡◌, ℕ, zero, suc, ◌+◌, ◌<◌, ◌≤◌, List, [], ◌∷◌, ◌++◌, length, get_or, refl, sym, ap, ◌∙◌, arith, take}
 use Rattle.std.proofs.lemmas.List.{take_more, take_all}
 use Rattle.std.specs.Prelude.{if◌then◌else◌}
-use Rattle.candidate_ir.specs.declared.ir.kinds.GenericArg.{GenericArg}
-use Rattle.candidate_ir.specs.Hierarchy.Elaboration.{number_listed}
+use Rattle.ir_trees.specs.declared.ir.kinds.GenericArg.{GenericArg}
+use Rattle.ir_trees.specs.Hierarchy.Elaboration.{number_listed}
 use Rattle.candidate_assembly.specs.Rules.Unsizing.{mixed_list}
 
 pub mixed-length : (changed : List ℕ) (n : ℕ) (xs ys : List GenericArg) → length xs ≡ length ys → length (mixed_list changed n xs ys) ≡ length xs

@@ -1,19 +1,19 @@
 -- The type of the last field of a structure.
 use Rattle.std.proofs.Common.{◌≡◌, ℕ, ◌-◌, ◌≤◌, List, [], ◌∷◌, length, map, Some, None, refl, sym, ap, ◌∙◌, slice_index_or, arith}
-use Rattle.candidate_ir.specs.declared.ir.kinds.AdtId.{AdtId}
-use Rattle.candidate_ir.specs.declared.ir.kinds.Args.{Args}
-use Rattle.candidate_ir.specs.declared.ir.kinds.Ty.{Ty}
-use Rattle.candidate_ir.specs.Declarations.Context.{Context, Grows, world}
-use Rattle.candidate_ir.specs.Declarations.Contents.{AdtContents}
-use Rattle.candidate_ir.specs.Declarations.Declaring.{adt_at}
-use Rattle.candidate_ir.specs.Instantiation.Folding.{substituted_tree}
-use Rattle.candidate_ir.specs.Declarations.Lookups.{maybe}
-use Rattle.candidate_ir.specs.Syntax.Nodes.{error_tree}
-use Rattle.candidate_ir.specs.Syntax.Trees.{Forest, Tree}
-use Rattle.candidate_ir.specs.Validity.WellFormed.{TypesFit}
-use Rattle.candidate_ir.specs.Syntax.Words.{IsArgs, args_forest, ty_tree}
-use Rattle.candidate_ir.specs.Declarations.Worlds.{AdtSort, World, kinds_of, parameters}
-use Rattle.candidate_ir.proofs.Growth.Kept.{args-kept, world-kept}
+use Rattle.ir_trees.specs.declared.ir.kinds.AdtId.{AdtId}
+use Rattle.ir_trees.specs.declared.ir.kinds.Args.{Args}
+use Rattle.ir_trees.specs.declared.ir.kinds.Ty.{Ty}
+use Rattle.ir_trees.specs.Declarations.Context.{Context, Grows, world}
+use Rattle.ir_trees.specs.Declarations.Contents.{AdtContents}
+use Rattle.ir_trees.specs.Declarations.Declaring.{adt_at}
+use Rattle.ir_trees.specs.Instantiation.Folding.{substituted_tree}
+use Rattle.ir_trees.specs.Declarations.Lookups.{maybe}
+use Rattle.ir_trees.specs.Syntax.Nodes.{error_tree}
+use Rattle.ir_trees.specs.Syntax.Trees.{Forest, Tree}
+use Rattle.ir_trees.specs.Validity.WellFormed.{TypesFit}
+use Rattle.ir_trees.specs.Syntax.Words.{IsArgs, args_forest, ty_tree}
+use Rattle.ir_trees.specs.Declarations.Worlds.{AdtSort, World, kinds_of, parameters}
+use Rattle.ir_trees.proofs.Growth.Kept.{args-kept, world-kept}
 use Rattle.candidate_eval.specs.Dynamic.Replacing.{first_or}
 use Rattle.candidate_eval.specs.Builtins.Tables.{last_of, optional}
 use Rattle.candidate_eval.proofs.Builtins.Types.{types_kept}

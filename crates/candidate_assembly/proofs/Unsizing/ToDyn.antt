@@ -1,14 +1,14 @@
 -- The rule by which a type becomes a `dyn` type, and that there is none or one that doesn't apply.
 use Rattle.std.proofs.Common.{◌≡◌, Bool, true, false, Option, Some, None, List, [], ◌∷◌, Result, Ok, refl, sym, ap, subst, ◌∙◌}
 use Rattle.std.specs.Prelude.{IfSome, if◌then◌else◌}
-use Rattle.candidate_ir.specs.declared.decl.contents.LangItem.TheVariants as L
-use Rattle.candidate_ir.specs.declared.ir.kinds.TraitId.{TraitId}
-use Rattle.candidate_ir.specs.declared.ir.kinds.Ty.{Ty}
-use Rattle.candidate_ir.specs.declared.ir.stop.Stop.{Stop}
-use Rattle.candidate_ir.specs.Declarations.Context.{Context, world}
-use Rattle.candidate_ir.specs.Syntax.Trees.{Tree}
-use Rattle.candidate_ir.specs.Syntax.Words.{ty_tree}
-use Rattle.candidate_ir.specs.Declarations.Worlds.{TraitSort, parameters}
+use Rattle.ir_trees.specs.declared.decl.contents.LangItem.TheVariants as L
+use Rattle.ir_trees.specs.declared.ir.kinds.TraitId.{TraitId}
+use Rattle.ir_trees.specs.declared.ir.kinds.Ty.{Ty}
+use Rattle.ir_trees.specs.declared.ir.stop.Stop.{Stop}
+use Rattle.ir_trees.specs.Declarations.Context.{Context, world}
+use Rattle.ir_trees.specs.Syntax.Trees.{Tree}
+use Rattle.ir_trees.specs.Syntax.Words.{ty_tree}
+use Rattle.ir_trees.specs.Declarations.Worlds.{TraitSort, parameters}
 use Rattle.candidate_eval.specs.declared.eval.certainty.Certainty.TheVariants.{Yes}
 use Rattle.candidate_eval.specs.declared.eval.refusal.NoSolutionOrStop.{NoSolutionOrStop}
 use Rattle.candidate_eval.specs.declared.eval.response.Candidate.{Candidate as OfNumbers}

@@ -1,17 +1,17 @@
 -- Clauses that one type unsizes to another.
 use Rattle.std.proofs.Common.{◌≡◌, [], ◌∷◌, Some, sym, refl, ap, ◌∙◌}
-use Rattle.candidate_ir.specs.declared.ir.kinds.PredicatePolarity.TheVariants as Pol
-use Rattle.candidate_ir.specs.declared.ir.kinds.TraitPredicate.{TraitPredicate}
-use Rattle.candidate_ir.specs.declared.ir.kinds.TraitRef.{TraitRef}
-use Rattle.candidate_ir.specs.declared.ir.kinds.Ty.{Ty}
-use Rattle.candidate_ir.specs.declared.ir.kinds.Vars.{Vars}
-use Rattle.candidate_ir.specs.Declarations.Context.{Context, Grows, world}
-use Rattle.candidate_ir.specs.Declarations.References.{ArgumentsFit}
-use Rattle.candidate_ir.specs.Syntax.Trees.{Kind, TypeKind, Forest, none, Tree, kind_of}
-use Rattle.candidate_ir.specs.Syntax.Words.{IsArgs, IsTy, IsVars, args_forest, binder_tree, clause_kind_tree, ty_tree, vars_tree}
-use Rattle.candidate_ir.specs.Declarations.Worlds.{World, TraitSort, joined, kinds_of, parameters}
-use Rattle.candidate_ir.proofs.Growth.Kept.{world-kept}
-use Rattle.candidate_ir.proofs.Syntax.Rows.{kind-of}
+use Rattle.ir_trees.specs.declared.ir.kinds.PredicatePolarity.TheVariants as Pol
+use Rattle.ir_trees.specs.declared.ir.kinds.TraitPredicate.{TraitPredicate}
+use Rattle.ir_trees.specs.declared.ir.kinds.TraitRef.{TraitRef}
+use Rattle.ir_trees.specs.declared.ir.kinds.Ty.{Ty}
+use Rattle.ir_trees.specs.declared.ir.kinds.Vars.{Vars}
+use Rattle.ir_trees.specs.Declarations.Context.{Context, Grows, world}
+use Rattle.ir_trees.specs.Declarations.References.{ArgumentsFit}
+use Rattle.ir_trees.specs.Syntax.Trees.{Kind, TypeKind, Forest, none, Tree, kind_of}
+use Rattle.ir_trees.specs.Syntax.Words.{IsArgs, IsTy, IsVars, args_forest, binder_tree, clause_kind_tree, ty_tree, vars_tree}
+use Rattle.ir_trees.specs.Declarations.Worlds.{World, TraitSort, joined, kinds_of, parameters}
+use Rattle.ir_trees.proofs.Growth.Kept.{world-kept}
+use Rattle.ir_trees.proofs.Syntax.Rows.{kind-of}
 use Rattle.candidate_eval.specs.Dynamic.ObjectRequirements.{trait_fact}
 use Rattle.candidate_assembly.specs.Rules.BuiltinRules.{holds_of, pair_of}
 use Rattle.candidate_assembly.proofs.Goals.TraitClauses.{fact-is}

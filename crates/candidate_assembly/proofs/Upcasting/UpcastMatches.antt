@@ -4,12 +4,12 @@ use Rattle.std.specs.Prelude.{if◌then◌else◌, ◌||◌}
 use Rattle.std.specs.List.{All, filter}
 use Rattle.std.proofs.lemmas.List.{length-append}
 use Rattle.std.proofs.lemmas.List.Elements.{All-head, All-tail}
-use Rattle.candidate_ir.specs.Instantiation.Folding.{substituted}
-use Rattle.candidate_ir.specs.Unification.Substitutions.{alone}
-use Rattle.candidate_ir.specs.Hierarchy.Supers.{after_first}
-use Rattle.candidate_ir.specs.Syntax.Trees.{Kind, ConstantKind, RegionKind, Forest, none, tree, Tree, count, holds, is_param, join}
-use Rattle.candidate_ir.proofs.Syntax.Rows.{join-none}
-use Rattle.candidate_ir.proofs.Syntax.Splits.{count-join, holds-join}
+use Rattle.ir_trees.specs.Instantiation.Folding.{substituted}
+use Rattle.ir_trees.specs.Unification.Substitutions.{alone}
+use Rattle.ir_trees.specs.Hierarchy.Supers.{after_first}
+use Rattle.ir_trees.specs.Syntax.Trees.{Kind, ConstantKind, RegionKind, Forest, none, tree, Tree, count, holds, is_param, join}
+use Rattle.ir_trees.proofs.Syntax.Rows.{join-none}
+use Rattle.ir_trees.proofs.Syntax.Splits.{count-join, holds-join}
 use Rattle.candidate_eval.specs.declared.eval.certainty.Certainty.{Certainty}
 use Rattle.candidate_eval.specs.declared.eval.variable.VariableKind.{VariableKind}
 use Rattle.candidate_eval.specs.declared.eval.variable.VariableKind.TheVariants.{Term, Region}

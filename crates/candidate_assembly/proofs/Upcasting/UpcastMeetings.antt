@@ -3,9 +3,9 @@ use Rattle.std.proofs.Common.{◌≡◌, ◌≤◌, ◌+◌, ℕ, suc, Bool, tru
 use Rattle.std.specs.Prelude.{if◌then◌else◌}
 use Rattle.std.specs.List.{All, filter}
 use Rattle.std.proofs.lemmas.List.Elements.{All-filter, All-head, All-same, All-tail}
-use Rattle.candidate_ir.specs.Unification.Substitutions.{alone}
-use Rattle.candidate_ir.specs.Syntax.Trees.{Forest, Tree, count, holds, is_param, join}
-use Rattle.candidate_ir.proofs.Syntax.Splits.{count-join}
+use Rattle.ir_trees.specs.Unification.Substitutions.{alone}
+use Rattle.ir_trees.specs.Syntax.Trees.{Forest, Tree, count, holds, is_param, join}
+use Rattle.ir_trees.proofs.Syntax.Splits.{count-join}
 use Rattle.candidate_eval.specs.Judges.Alike.{JudgesAlike}
 use Rattle.candidate_eval.specs.Builtins.Callable.{last_tree}
 use Rattle.candidate_eval.specs.Outcomes.Certainties.{AMBIGUOUS}

@@ -5,33 +5,33 @@ use Rattle.std.specs.Prelude.{IfSome, if◌then◌else◌, ◌||◌, not, option
 use Rattle.std.specs.List.{filter, flat_map}
 use Rattle.std.proofs.lemmas.List.Folds.{list_any-append}
 use Rattle.std.proofs.lemmas.Option.{slice_get-map}
-use Rattle.candidate_ir.specs.declared.decl.definition.AssocKind.TheVariants as A
-use Rattle.candidate_ir.specs.declared.decl.definition.DefinitionKind.{DefinitionKind}
-use Rattle.candidate_ir.specs.declared.decl.definition.DefinitionKind.TheVariants as D
-use Rattle.candidate_ir.specs.declared.ir.heads.ClauseHead.TheVariants as Cl
-use Rattle.candidate_ir.specs.declared.ir.heads.Head.{Head}
-use Rattle.candidate_ir.specs.declared.ir.heads.Head.TheVariants as H
-use Rattle.candidate_ir.specs.declared.ir.heads.PartHead.TheVariants as P
-use Rattle.candidate_ir.specs.declared.ir.heads.PredHead.TheVariants as PH
-use Rattle.candidate_ir.specs.declared.ir.kinds.Clause.{Clause}
-use Rattle.candidate_ir.specs.declared.ir.kinds.Pred.{Pred}
-use Rattle.candidate_ir.specs.declared.ir.kinds.PredicatePolarity.TheVariants as Polarity
-use Rattle.candidate_ir.specs.declared.ir.kinds.Ty.{Ty}
-use Rattle.candidate_ir.specs.Declarations.Context.{Context, definition_of, parameter_kind, sort_of, world}
-use Rattle.candidate_ir.specs.Declarations.Declaration.{Declaration}
-use Rattle.candidate_ir.specs.Declarations.Declaring.{place_of, trait_at, trait_place}
-use Rattle.candidate_ir.specs.Declarations.References.{FitsAmong}
-use Rattle.candidate_ir.specs.Declarations.Worlds.{TraitSort, child_kinds, joined, kinds_of, parameters, parameters_of, sort_number}
-use Rattle.candidate_ir.specs.Hierarchy.Elaboration.{AreLower, AreSupertraits, Elaborates, IsLower, IsRank, SuperClauses, ended, implied, implied_by, is_there, is_trait_clause, number_listed, step, super_clauses, supers_if, supertraits, trait_of, traits_among, unlisted}
-use Rattle.candidate_ir.specs.Hierarchy.Supers.{supers_at, supers_of}
-use Rattle.candidate_ir.specs.Hierarchy.Supertraits.{IsAcyclic, clause_supertrait, declared_supers, head_trait}
-use Rattle.candidate_ir.specs.Syntax.Trees.{BinderKind, Forest, Kind, Tree, TypeKind}
-use Rattle.candidate_ir.specs.Syntax.Words.{clause_tree, pred_tree, ty_tree}
-use Rattle.candidate_ir.specs.Validity.WellFormed.{IsWellFormedTable}
-use Rattle.candidate_ir.proofs.Hierarchy.Elaboration.{has_elaboration}
-use Rattle.candidate_ir.proofs.Hierarchy.ElaborationLaws.{elaboration_begins}
-use Rattle.candidate_ir.proofs.Instantiation.Folding.{or-left, or-right}
-use Rattle.candidate_ir.proofs.Kinding.References.{fit-at}
+use Rattle.ir_trees.specs.declared.decl.definition.AssocKind.TheVariants as A
+use Rattle.ir_trees.specs.declared.decl.definition.DefinitionKind.{DefinitionKind}
+use Rattle.ir_trees.specs.declared.decl.definition.DefinitionKind.TheVariants as D
+use Rattle.ir_trees.specs.declared.ir.heads.ClauseHead.TheVariants as Cl
+use Rattle.ir_trees.specs.declared.ir.heads.Head.{Head}
+use Rattle.ir_trees.specs.declared.ir.heads.Head.TheVariants as H
+use Rattle.ir_trees.specs.declared.ir.heads.PartHead.TheVariants as P
+use Rattle.ir_trees.specs.declared.ir.heads.PredHead.TheVariants as PH
+use Rattle.ir_trees.specs.declared.ir.kinds.Clause.{Clause}
+use Rattle.ir_trees.specs.declared.ir.kinds.Pred.{Pred}
+use Rattle.ir_trees.specs.declared.ir.kinds.PredicatePolarity.TheVariants as Polarity
+use Rattle.ir_trees.specs.declared.ir.kinds.Ty.{Ty}
+use Rattle.ir_trees.specs.Declarations.Context.{Context, definition_of, parameter_kind, sort_of, world}
+use Rattle.ir_trees.specs.Declarations.Declaration.{Declaration}
+use Rattle.ir_trees.specs.Declarations.Declaring.{place_of, trait_at, trait_place}
+use Rattle.ir_trees.specs.Declarations.References.{FitsAmong}
+use Rattle.ir_trees.specs.Declarations.Worlds.{TraitSort, child_kinds, joined, kinds_of, parameters, parameters_of, sort_number}
+use Rattle.ir_trees.specs.Hierarchy.Elaboration.{AreLower, AreSupertraits, Elaborates, IsLower, IsRank, SuperClauses, ended, implied, implied_by, is_there, is_trait_clause, number_listed, step, super_clauses, supers_if, supertraits, trait_of, traits_among, unlisted}
+use Rattle.ir_trees.specs.Hierarchy.Supers.{supers_at, supers_of}
+use Rattle.ir_trees.specs.Hierarchy.Supertraits.{IsAcyclic, clause_supertrait, declared_supers, head_trait}
+use Rattle.ir_trees.specs.Syntax.Trees.{BinderKind, Forest, Kind, Tree, TypeKind}
+use Rattle.ir_trees.specs.Syntax.Words.{clause_tree, pred_tree, ty_tree}
+use Rattle.ir_trees.specs.Validity.WellFormed.{IsWellFormedTable}
+use Rattle.ir_context.proofs.Hierarchy.Elaboration.{has_elaboration}
+use Rattle.ir_context.proofs.Hierarchy.ElaborationLaws.{elaboration_begins}
+use Rattle.ir_trees.proofs.Instantiation.Folding.{or-left, or-right}
+use Rattle.ir_trees.proofs.Kinding.References.{fit-at}
 use Rattle.candidate_eval.specs.declared.eval.certainty.Certainty.TheVariants.{Yes}
 use Rattle.candidate_eval.specs.Derivations.ImplRules.{TraitGoal}
 use Rattle.candidate_eval.specs.Derivations.Rules.{Rule, ask, nested}

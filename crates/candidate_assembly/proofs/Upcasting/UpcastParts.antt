@@ -3,39 +3,39 @@ use Rattle.std.proofs.Common.{◌≡◌, ◌==◌, ℕ, Bool, true, false, Optio
 use Rattle.std.specs.Prelude.{IfSome, option_map}
 use Rattle.std.specs.List.{filter}
 use Rattle.std.proofs.lemmas.List.Elements.{All-cons, All-filter, All-head, All-nil, All-tail}
-use Rattle.candidate_ir.specs.declared.ir.heads.ClauseHead.{ClauseHead}
-use Rattle.candidate_ir.specs.declared.ir.heads.ClauseHead.TheVariants as Cl
-use Rattle.candidate_ir.specs.declared.ir.heads.Head.{Head}
-use Rattle.candidate_ir.specs.declared.ir.heads.Head.TheVariants as H
-use Rattle.candidate_ir.specs.declared.ir.heads.PartHead.{PartHead}
-use Rattle.candidate_ir.specs.declared.ir.heads.PartHead.TheVariants as P
-use Rattle.candidate_ir.specs.declared.ir.heads.PredHead.TheVariants as PH
-use Rattle.candidate_ir.specs.declared.ir.kinds.Binder.{Binder}
-use Rattle.candidate_ir.specs.declared.ir.kinds.Clause.{Clause}
-use Rattle.candidate_ir.specs.declared.ir.kinds.ClauseKind.{ClauseKind}
-use Rattle.candidate_ir.specs.declared.ir.kinds.ClauseKind.TheVariants as K
-use Rattle.candidate_ir.specs.declared.ir.kinds.Pred.{Pred}
-use Rattle.candidate_ir.specs.declared.ir.kinds.Preds.{Preds}
-use Rattle.candidate_ir.specs.declared.ir.kinds.Region.{Region}
-use Rattle.candidate_ir.specs.declared.ir.kinds.TraitId.{TraitId}
-use Rattle.candidate_ir.specs.declared.ir.kinds.Ty.{Ty}
-use Rattle.candidate_ir.specs.declared.ir.kinds.Vars.{Vars}
-use Rattle.candidate_ir.specs.Declarations.Context.{Context, Grows, world}
-use Rattle.candidate_ir.specs.Hierarchy.Elaboration.{AreSupertraits, under_binder}
-use Rattle.candidate_ir.specs.Declarations.Names.{principal_of}
-use Rattle.candidate_ir.specs.Syntax.Nodes.{kind_at}
-use Rattle.candidate_ir.specs.Declarations.References.{FitsAmong, Takes}
-use Rattle.candidate_ir.specs.Unification.Substitutions.{alone}
-use Rattle.candidate_ir.specs.Hierarchy.Supers.{after_first}
-use Rattle.candidate_ir.specs.Syntax.Trees.{Kind, BinderKind, RegionKind, Forest, none, tree, Tree, holds, is_param, kind_of}
-use Rattle.candidate_ir.specs.Validity.WellFormed.{IsWellFormedTable}
-use Rattle.candidate_ir.specs.Syntax.Words.{ClauseFits, ClauseListFits, IsClause, IsPred, IsRegion, IsVars, PredListFits, pred_list_forest, preds_forest, binder_tree, clause_kind_tree, clause_tree, pred_tree, region_tree, ty_tree, vars_tree}
-use Rattle.candidate_ir.specs.Declarations.Worlds.{Fits, World}
-use Rattle.candidate_ir.proofs.Instantiation.Joining.{clause-over, over}
-use Rattle.candidate_ir.proofs.Growth.Kept.{grows-trans}
-use Rattle.candidate_ir.proofs.Growth.Made.{IsClause-listed, IsPred-listed}
-use Rattle.candidate_ir.proofs.Kinding.References.{fit-at}
-use Rattle.candidate_ir.proofs.Syntax.Rows.{kind-of, row-single}
+use Rattle.ir_trees.specs.declared.ir.heads.ClauseHead.{ClauseHead}
+use Rattle.ir_trees.specs.declared.ir.heads.ClauseHead.TheVariants as Cl
+use Rattle.ir_trees.specs.declared.ir.heads.Head.{Head}
+use Rattle.ir_trees.specs.declared.ir.heads.Head.TheVariants as H
+use Rattle.ir_trees.specs.declared.ir.heads.PartHead.{PartHead}
+use Rattle.ir_trees.specs.declared.ir.heads.PartHead.TheVariants as P
+use Rattle.ir_trees.specs.declared.ir.heads.PredHead.TheVariants as PH
+use Rattle.ir_trees.specs.declared.ir.kinds.Binder.{Binder}
+use Rattle.ir_trees.specs.declared.ir.kinds.Clause.{Clause}
+use Rattle.ir_trees.specs.declared.ir.kinds.ClauseKind.{ClauseKind}
+use Rattle.ir_trees.specs.declared.ir.kinds.ClauseKind.TheVariants as K
+use Rattle.ir_trees.specs.declared.ir.kinds.Pred.{Pred}
+use Rattle.ir_trees.specs.declared.ir.kinds.Preds.{Preds}
+use Rattle.ir_trees.specs.declared.ir.kinds.Region.{Region}
+use Rattle.ir_trees.specs.declared.ir.kinds.TraitId.{TraitId}
+use Rattle.ir_trees.specs.declared.ir.kinds.Ty.{Ty}
+use Rattle.ir_trees.specs.declared.ir.kinds.Vars.{Vars}
+use Rattle.ir_trees.specs.Declarations.Context.{Context, Grows, world}
+use Rattle.ir_trees.specs.Hierarchy.Elaboration.{AreSupertraits, under_binder}
+use Rattle.ir_trees.specs.Declarations.Names.{principal_of}
+use Rattle.ir_trees.specs.Syntax.Nodes.{kind_at}
+use Rattle.ir_trees.specs.Declarations.References.{FitsAmong, Takes}
+use Rattle.ir_trees.specs.Unification.Substitutions.{alone}
+use Rattle.ir_trees.specs.Hierarchy.Supers.{after_first}
+use Rattle.ir_trees.specs.Syntax.Trees.{Kind, BinderKind, RegionKind, Forest, none, tree, Tree, holds, is_param, kind_of}
+use Rattle.ir_trees.specs.Validity.WellFormed.{IsWellFormedTable}
+use Rattle.ir_trees.specs.Syntax.Words.{ClauseFits, ClauseListFits, IsClause, IsPred, IsRegion, IsVars, PredListFits, pred_list_forest, preds_forest, binder_tree, clause_kind_tree, clause_tree, pred_tree, region_tree, ty_tree, vars_tree}
+use Rattle.ir_trees.specs.Declarations.Worlds.{Fits, World}
+use Rattle.ir_folds.proofs.Instantiation.Joining.{clause-over, over}
+use Rattle.ir_trees.proofs.Growth.Kept.{grows-trans}
+use Rattle.ir_trees.proofs.Growth.Made.{IsClause-listed, IsPred-listed}
+use Rattle.ir_trees.proofs.Kinding.References.{fit-at}
+use Rattle.ir_trees.proofs.Syntax.Rows.{kind-of, row-single}
 use Rattle.candidate_eval.specs.Builtins.Callable.{all_but_last}
 use Rattle.candidate_eval.specs.Derivations.Mentions.{IsBelow, is_from}
 use Rattle.candidate_eval.specs.Dynamic.Required.{each_of}

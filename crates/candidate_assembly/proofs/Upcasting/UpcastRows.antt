@@ -2,40 +2,40 @@
 use Rattle.std.proofs.Common.{◌≡◌, ◌≤◌, ◌-◌, ℕ, suc, true, Some, arith, length, take, List, [], ◌∷◌, ◌++◌, map, refl, sym, ◌∙◌, ap, subst}
 use Rattle.std.proofs.Math.ListN.{drop}
 use Rattle.std.proofs.lemmas.List.{take_all}
-use Rattle.candidate_ir.specs.declared.ir.heads.Head.{Head}
-use Rattle.candidate_ir.specs.declared.ir.heads.Head.TheVariants as H
-use Rattle.candidate_ir.specs.declared.ir.heads.PartHead.TheVariants as P
-use Rattle.candidate_ir.specs.declared.ir.heads.PredHead.TheVariants as PH
-use Rattle.candidate_ir.specs.declared.ir.kinds.Args.{Args}
-use Rattle.candidate_ir.specs.declared.ir.kinds.Binder.{Binder}
-use Rattle.candidate_ir.specs.declared.ir.heads.ClauseHead.TheVariants as Cl
-use Rattle.candidate_ir.specs.declared.ir.kinds.Pred.{Pred}
-use Rattle.candidate_ir.specs.declared.ir.kinds.Clause.{Clause}
-use Rattle.candidate_ir.specs.declared.ir.kinds.ClauseKind.{ClauseKind}
-use Rattle.candidate_ir.specs.declared.ir.kinds.ClauseKind.TheVariants as K
-use Rattle.candidate_ir.specs.declared.ir.kinds.TraitPredicate.{TraitPredicate}
-use Rattle.candidate_ir.specs.declared.ir.kinds.ExistentialPredicate.{ExistentialPredicate}
-use Rattle.candidate_ir.specs.declared.ir.kinds.ExistentialPredicate.TheVariants as E
-use Rattle.candidate_ir.specs.declared.ir.kinds.ExistentialProjection.{ExistentialProjection}
-use Rattle.candidate_ir.specs.declared.ir.kinds.ExistentialTraitRef.{ExistentialTraitRef}
-use Rattle.candidate_ir.specs.declared.ir.kinds.GenericArg.{GenericArg}
-use Rattle.candidate_ir.specs.declared.ir.kinds.GenericArg.TheVariants as G
-use Rattle.candidate_ir.specs.declared.ir.kinds.TraitId.{TraitId}
-use Rattle.candidate_ir.specs.declared.ir.kinds.Ty.{Ty}
-use Rattle.candidate_ir.specs.declared.ir.kinds.Vars.{Vars}
-use Rattle.candidate_ir.specs.Declarations.Context.{Context, Grows}
-use Rattle.candidate_ir.specs.Syntax.Kinds.{arg_child, clause_head, fact_children, numbers}
-use Rattle.candidate_ir.specs.Syntax.Nodes.{kind_at, rows, tree_at, trees_at}
-use Rattle.candidate_ir.specs.Unification.Substitutions.{alone}
-use Rattle.candidate_ir.specs.Syntax.Trees.{ArgumentsKind, BinderKind, ConstantKind, Kind, PredicateKind, RegionKind, TypeKind, Forest, none, Tree, join, row}
-use Rattle.candidate_ir.specs.Hierarchy.Supers.{after_first}
-use Rattle.candidate_ir.specs.Syntax.Words.{ClauseFits, IsArgs, IsPred, IsTy, IsVars, ListFits, PredFits, args_forest, clause_kind_tree, clause_tree, list_forest, pred_kind_tree, pred_tree, ty_tree, vars_tree}
-use Rattle.candidate_ir.proofs.Growth.Kept.{args-kept, number-kept}
-use Rattle.candidate_ir.proofs.Syntax.Lists.{below_kind}
-use Rattle.candidate_ir.proofs.Traversal.FoldRows.{rows-append}
-use Rattle.candidate_ir.proofs.Instantiation.Joining.{below_binder, clause-over, over as clause-with}
-use Rattle.candidate_ir.proofs.Hierarchy.Listing.{vars_kept}
-use Rattle.candidate_ir.proofs.Syntax.Rows.{join-none, row-list, row-single}
+use Rattle.ir_trees.specs.declared.ir.heads.Head.{Head}
+use Rattle.ir_trees.specs.declared.ir.heads.Head.TheVariants as H
+use Rattle.ir_trees.specs.declared.ir.heads.PartHead.TheVariants as P
+use Rattle.ir_trees.specs.declared.ir.heads.PredHead.TheVariants as PH
+use Rattle.ir_trees.specs.declared.ir.kinds.Args.{Args}
+use Rattle.ir_trees.specs.declared.ir.kinds.Binder.{Binder}
+use Rattle.ir_trees.specs.declared.ir.heads.ClauseHead.TheVariants as Cl
+use Rattle.ir_trees.specs.declared.ir.kinds.Pred.{Pred}
+use Rattle.ir_trees.specs.declared.ir.kinds.Clause.{Clause}
+use Rattle.ir_trees.specs.declared.ir.kinds.ClauseKind.{ClauseKind}
+use Rattle.ir_trees.specs.declared.ir.kinds.ClauseKind.TheVariants as K
+use Rattle.ir_trees.specs.declared.ir.kinds.TraitPredicate.{TraitPredicate}
+use Rattle.ir_trees.specs.declared.ir.kinds.ExistentialPredicate.{ExistentialPredicate}
+use Rattle.ir_trees.specs.declared.ir.kinds.ExistentialPredicate.TheVariants as E
+use Rattle.ir_trees.specs.declared.ir.kinds.ExistentialProjection.{ExistentialProjection}
+use Rattle.ir_trees.specs.declared.ir.kinds.ExistentialTraitRef.{ExistentialTraitRef}
+use Rattle.ir_trees.specs.declared.ir.kinds.GenericArg.{GenericArg}
+use Rattle.ir_trees.specs.declared.ir.kinds.GenericArg.TheVariants as G
+use Rattle.ir_trees.specs.declared.ir.kinds.TraitId.{TraitId}
+use Rattle.ir_trees.specs.declared.ir.kinds.Ty.{Ty}
+use Rattle.ir_trees.specs.declared.ir.kinds.Vars.{Vars}
+use Rattle.ir_trees.specs.Declarations.Context.{Context, Grows}
+use Rattle.ir_trees.specs.Syntax.Kinds.{arg_child, clause_head, fact_children, numbers}
+use Rattle.ir_trees.specs.Syntax.Nodes.{kind_at, rows, tree_at, trees_at}
+use Rattle.ir_trees.specs.Unification.Substitutions.{alone}
+use Rattle.ir_trees.specs.Syntax.Trees.{ArgumentsKind, BinderKind, ConstantKind, Kind, PredicateKind, RegionKind, TypeKind, Forest, none, Tree, join, row}
+use Rattle.ir_trees.specs.Hierarchy.Supers.{after_first}
+use Rattle.ir_trees.specs.Syntax.Words.{ClauseFits, IsArgs, IsPred, IsTy, IsVars, ListFits, PredFits, args_forest, clause_kind_tree, clause_tree, list_forest, pred_kind_tree, pred_tree, ty_tree, vars_tree}
+use Rattle.ir_trees.proofs.Growth.Kept.{args-kept, number-kept}
+use Rattle.ir_trees.proofs.Syntax.Lists.{below_kind}
+use Rattle.ir_folds.proofs.Traversal.FoldRows.{rows-append}
+use Rattle.ir_folds.proofs.Instantiation.Joining.{below_binder, clause-over, over as clause-with}
+use Rattle.ir_context.proofs.Hierarchy.Listing.{vars_kept}
+use Rattle.ir_trees.proofs.Syntax.Rows.{join-none, row-list, row-single}
 use Rattle.candidate_eval.specs.Derivations.Characterization.{binder_kinds}
 use Rattle.candidate_assembly.specs.Rules.DynBounds.{same_number, trait_of_bound}
 use Rattle.candidate_assembly.specs.Calls.Upcasting.{IsReferenceOf, IsRow, IsRowOf, Row, rest_of, row_at, row_under}

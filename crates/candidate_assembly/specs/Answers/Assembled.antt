@@ -1,18 +1,18 @@
 -- The list of all ways in which a goal can be proved, in its order.
 use Rattle.std.specs.Prelude.{◌≡◌, ◌≤◌, ℕ, Bool, true, false, not, ◌&&◌, Option, Some, None, List, [], ◌∷◌, map, count_by, if◌then◌else◌, Result, IfOk}
 use Rattle.std.specs.List.{list_any}
-use Rattle.candidate_ir.specs.declared.decl.contents.ImplId.{ImplId}
-use Rattle.candidate_ir.specs.declared.decl.contents.LangItem.{LangItem}
-use Rattle.candidate_ir.specs.declared.decl.contents.LangItem.TheVariants as L
-use Rattle.candidate_ir.specs.declared.decl.contents.Sizedness.TheVariants as S
-use Rattle.candidate_ir.specs.declared.ir.heads.Flag.TheVariants as F
-use Rattle.candidate_ir.specs.declared.ir.kinds.ClosureKind.TheVariants as C
-use Rattle.candidate_ir.specs.declared.ir.stop.Stop.{Stop}
-use Rattle.candidate_ir.specs.Declarations.Context.{Context}
-use Rattle.candidate_ir.specs.Validity.Faults.{all_items}
-use Rattle.candidate_ir.specs.Syntax.Flags.{mark}
-use Rattle.candidate_ir.specs.Unification.Impls.{relevant_impls}
-use Rattle.candidate_ir.specs.Syntax.Trees.{Tree, holds}
+use Rattle.ir_trees.specs.declared.decl.contents.ImplId.{ImplId}
+use Rattle.ir_trees.specs.declared.decl.contents.LangItem.{LangItem}
+use Rattle.ir_trees.specs.declared.decl.contents.LangItem.TheVariants as L
+use Rattle.ir_trees.specs.declared.decl.contents.Sizedness.TheVariants as S
+use Rattle.ir_trees.specs.declared.ir.heads.Flag.TheVariants as F
+use Rattle.ir_trees.specs.declared.ir.kinds.ClosureKind.TheVariants as C
+use Rattle.ir_trees.specs.declared.ir.stop.Stop.{Stop}
+use Rattle.ir_trees.specs.Declarations.Context.{Context}
+use Rattle.ir_trees.specs.Validity.Faults.{all_items}
+use Rattle.ir_trees.specs.Syntax.Flags.{mark}
+use Rattle.ir_trees.specs.Unification.Impls.{relevant_impls}
+use Rattle.ir_trees.specs.Syntax.Trees.{Tree, holds}
 use Rattle.candidate_eval.specs.declared.eval.mode.TypingMode.{TypingMode}
 use Rattle.candidate_eval.specs.declared.eval.source.CandidateSource.{CandidateSource}
 use Rattle.candidate_eval.specs.declared.eval.source.CandidateSource.TheVariants as Source

@@ -1,8 +1,8 @@
 -- What is promised of what a goal of a trait comes to, as one fact of the answer by its trees: see `proved`, `refused` and `impls` of
 -- `compute_trait_goal`, which says the same of numbers.
 use Rattle.std.specs.Prelude.{◌≡◌, List, Option, Result}
-use Rattle.candidate_ir.specs.Declarations.Context.{Context}
-use Rattle.candidate_ir.specs.Syntax.Trees.{Tree}
+use Rattle.ir_trees.specs.Declarations.Context.{Context}
+use Rattle.ir_trees.specs.Syntax.Trees.{Tree}
 use Rattle.candidate_eval.specs.declared.eval.certainty.Certainty.TheVariants.{Yes}
 use Rattle.candidate_eval.specs.declared.eval.refusal.NoSolutionOrStop.{NoSolutionOrStop}
 use Rattle.candidate_eval.specs.declared.eval.response.CanonicalResponse.{CanonicalResponse}

@@ -1,9 +1,9 @@
 -- What it says that a goal of a trait is refused in coherence, where the goal leaves nothing open.
 use Rattle.std.specs.Prelude.{◌≡◌, false, Option, None, List, [], ◌∷◌, map, Result, IfErr}
-use Rattle.candidate_ir.specs.declared.ir.kinds.GoalSource.TheVariants.{Misc}
-use Rattle.candidate_ir.specs.Declarations.Context.{Context, world}
-use Rattle.candidate_ir.specs.Hierarchy.Elaboration.{IsElaboration}
-use Rattle.candidate_ir.specs.Syntax.Trees.{Tree, holds, is_alias}
+use Rattle.ir_trees.specs.declared.ir.kinds.GoalSource.TheVariants.{Misc}
+use Rattle.ir_trees.specs.Declarations.Context.{Context, world}
+use Rattle.ir_trees.specs.Hierarchy.Elaboration.{IsElaboration}
+use Rattle.ir_trees.specs.Syntax.Trees.{Tree, holds, is_alias}
 use Rattle.candidate_eval.specs.declared.eval.mode.TypingMode.TheVariants.{Coherence}
 use Rattle.candidate_eval.specs.declared.eval.refusal.NoSolutionOrStop.{NoSolutionOrStop}
 use Rattle.candidate_eval.specs.declared.eval.refusal.NoSolutionOrStop.TheVariants as N

@@ -1,17 +1,17 @@
 -- What a refusal in coherence says of the impls that are declared: each that overlaps the goal was tried, and what it asks for was refused.
 use Rattle.std.specs.Prelude.{◌≡◌, false, Option, Some, None, List, ◌++◌, map, Result, IfErr}
-use Rattle.candidate_ir.specs.declared.decl.contents.ImplId.{ImplId}
-use Rattle.candidate_ir.specs.declared.ir.kinds.Clause.{Clause}
-use Rattle.candidate_ir.specs.declared.ir.kinds.GoalSource.{GoalSource}
-use Rattle.candidate_ir.specs.declared.ir.kinds.GoalSource.TheVariants.{ImplWhereBound, Misc}
-use Rattle.candidate_ir.specs.Declarations.Context.{Context, parameter_kind}
-use Rattle.candidate_ir.specs.Declarations.Contents.{Impl}
-use Rattle.candidate_ir.specs.Declarations.Declaring.{impl_at}
-use Rattle.candidate_ir.specs.Instantiation.Folding.{substituted, substituted_tree}
-use Rattle.candidate_ir.specs.Unification.Substitutions.{Overlap}
-use Rattle.candidate_ir.specs.Syntax.Trees.{Forest, Kind, holds, is_alias}
-use Rattle.candidate_ir.specs.Syntax.Words.{args_forest, clause_tree}
-use Rattle.candidate_ir.specs.Declarations.Worlds.{Reference}
+use Rattle.ir_trees.specs.declared.decl.contents.ImplId.{ImplId}
+use Rattle.ir_trees.specs.declared.ir.kinds.Clause.{Clause}
+use Rattle.ir_trees.specs.declared.ir.kinds.GoalSource.{GoalSource}
+use Rattle.ir_trees.specs.declared.ir.kinds.GoalSource.TheVariants.{ImplWhereBound, Misc}
+use Rattle.ir_trees.specs.Declarations.Context.{Context, parameter_kind}
+use Rattle.ir_trees.specs.Declarations.Contents.{Impl}
+use Rattle.ir_trees.specs.Declarations.Declaring.{impl_at}
+use Rattle.ir_trees.specs.Instantiation.Folding.{substituted, substituted_tree}
+use Rattle.ir_trees.specs.Unification.Substitutions.{Overlap}
+use Rattle.ir_trees.specs.Syntax.Trees.{Forest, Kind, holds, is_alias}
+use Rattle.ir_trees.specs.Syntax.Words.{args_forest, clause_tree}
+use Rattle.ir_trees.specs.Declarations.Worlds.{Reference}
 use Rattle.candidate_eval.specs.declared.eval.certainty.Certainty.{Certainty}
 use Rattle.candidate_eval.specs.declared.eval.refusal.NoSolutionOrStop.{NoSolutionOrStop}
 use Rattle.candidate_eval.specs.declared.eval.refusal.NoSolutionOrStop.TheVariants as N

@@ -1,17 +1,17 @@
 -- What calls say that walk a chain of aliases.
 use Rattle.std.specs.Prelude.{◌≡◌, ℕ, zero, suc, false, true, Option, Some, None, Result, IfErr, IfOk, IfSome, List, option_map}
-use Rattle.candidate_ir.specs.declared.decl.contents.AliasBoundKind.{AliasBoundKind}
-use Rattle.candidate_ir.specs.declared.decl.contents.AliasBoundKind.TheVariants.{NonSelfBounds}
-use Rattle.candidate_ir.specs.declared.ir.heads.Head.TheVariants as H
-use Rattle.candidate_ir.specs.declared.ir.kinds.AliasTy.{AliasTy}
-use Rattle.candidate_ir.specs.declared.ir.kinds.ParamEnv.{ParamEnv}
-use Rattle.candidate_ir.specs.declared.ir.kinds.Ty.{Ty}
-use Rattle.candidate_ir.specs.declared.ir.stop.Stop.{Stop}
-use Rattle.candidate_ir.specs.declared.ir.stop.Stop.TheVariants.{AliasDepth}
-use Rattle.candidate_ir.specs.Declarations.Context.{Context}
-use Rattle.candidate_ir.specs.Instantiation.Owned.{AliasArgumentsFit}
-use Rattle.candidate_ir.specs.Syntax.Trees.{Tree}
-use Rattle.candidate_ir.specs.Syntax.Words.{IsArgs, IsTy, ty_tree}
+use Rattle.ir_trees.specs.declared.decl.contents.AliasBoundKind.{AliasBoundKind}
+use Rattle.ir_trees.specs.declared.decl.contents.AliasBoundKind.TheVariants.{NonSelfBounds}
+use Rattle.ir_trees.specs.declared.ir.heads.Head.TheVariants as H
+use Rattle.ir_trees.specs.declared.ir.kinds.AliasTy.{AliasTy}
+use Rattle.ir_trees.specs.declared.ir.kinds.ParamEnv.{ParamEnv}
+use Rattle.ir_trees.specs.declared.ir.kinds.Ty.{Ty}
+use Rattle.ir_trees.specs.declared.ir.stop.Stop.{Stop}
+use Rattle.ir_trees.specs.declared.ir.stop.Stop.TheVariants.{AliasDepth}
+use Rattle.ir_trees.specs.Declarations.Context.{Context}
+use Rattle.ir_trees.specs.Instantiation.Owned.{AliasArgumentsFit}
+use Rattle.ir_trees.specs.Syntax.Trees.{Tree}
+use Rattle.ir_trees.specs.Syntax.Words.{IsArgs, IsTy, ty_tree}
 use Rattle.candidate_eval.specs.declared.eval.response.Candidate.{Candidate as OfNumbers}
 use Rattle.candidate_eval.specs.Interface.Accounts.{Account}
 use Rattle.candidate_eval.specs.Interface.Evaluators.{Keeps, KeepsBut}

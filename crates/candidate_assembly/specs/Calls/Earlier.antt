@@ -1,6 +1,6 @@
 -- Contexts that have grown: what is said of a goal is said as each earlier one has it, since what is declared stays.
-use Rattle.candidate_ir.specs.Declarations.Context.{Context, Grows}
-use Rattle.candidate_ir.specs.Validity.WellFormed.{IsWellFormedTable}
+use Rattle.ir_trees.specs.Declarations.Context.{Context, Grows}
+use Rattle.ir_trees.specs.Validity.WellFormed.{IsWellFormedTable}
 use Rattle.candidate_assembly.specs.Answers.Listing.{Listed}
 
 -- A context that has grown to this one, where nothing is wrong with what is declared.

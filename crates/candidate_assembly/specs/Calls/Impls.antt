@@ -1,13 +1,13 @@
 -- What is read of an impl, and what its rule does for a row of arguments.
 use Rattle.std.specs.Prelude.{◌≡◌, Some, List, [], map}
-use Rattle.candidate_ir.specs.declared.decl.contents.ImplId.{ImplId}
-use Rattle.candidate_ir.specs.Declarations.Context.{Context, parameter_kind}
-use Rattle.candidate_ir.specs.Declarations.Contents.{Impl}
-use Rattle.candidate_ir.specs.Declarations.Declaring.{impl_at}
-use Rattle.candidate_ir.specs.Declarations.Lookups.{maybe}
-use Rattle.candidate_ir.specs.Instantiation.Owned.{ImplIsOwned}
-use Rattle.candidate_ir.specs.Syntax.Trees.{Kind, Forest}
-use Rattle.candidate_ir.specs.Validity.WellFormed.{ImplIsGiven}
+use Rattle.ir_trees.specs.declared.decl.contents.ImplId.{ImplId}
+use Rattle.ir_trees.specs.Declarations.Context.{Context, parameter_kind}
+use Rattle.ir_trees.specs.Declarations.Contents.{Impl}
+use Rattle.ir_trees.specs.Declarations.Declaring.{impl_at}
+use Rattle.ir_trees.specs.Declarations.Lookups.{maybe}
+use Rattle.ir_trees.specs.Instantiation.Owned.{ImplIsOwned}
+use Rattle.ir_trees.specs.Syntax.Trees.{Kind, Forest}
+use Rattle.ir_trees.specs.Validity.WellFormed.{ImplIsGiven}
 use Rattle.candidate_eval.specs.Derivations.ImplRules.{impl_steps}
 use Rattle.candidate_eval.specs.Derivations.Rules.{Step}
 use Rattle.candidate_assembly.specs.declared.trait_goals.impls.DeclaredImpl.{DeclaredImpl}

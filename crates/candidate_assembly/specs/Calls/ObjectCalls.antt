@@ -1,12 +1,12 @@
 -- What calls say that consider an object's own bounds.
 use Rattle.std.specs.Prelude.{◌≡◌, ℕ, suc, Bool, false, true, not, Result, IfErr, List, [], ◌∷◌, map}
 use Rattle.std.specs.List.{All, filter}
-use Rattle.candidate_ir.specs.declared.ir.kinds.Binder.{Binder}
-use Rattle.candidate_ir.specs.declared.ir.kinds.Clause.{Clause}
-use Rattle.candidate_ir.specs.declared.ir.kinds.TraitRef.{TraitRef}
-use Rattle.candidate_ir.specs.Declarations.Context.{Context}
-use Rattle.candidate_ir.specs.Syntax.Trees.{Forest, Tree, holds, is_param}
-use Rattle.candidate_ir.specs.Syntax.Words.{IsArgs, IsClause, IsVars, args_forest, clause_kind_tree, clause_tree}
+use Rattle.ir_trees.specs.declared.ir.kinds.Binder.{Binder}
+use Rattle.ir_trees.specs.declared.ir.kinds.Clause.{Clause}
+use Rattle.ir_trees.specs.declared.ir.kinds.TraitRef.{TraitRef}
+use Rattle.ir_trees.specs.Declarations.Context.{Context}
+use Rattle.ir_trees.specs.Syntax.Trees.{Forest, Tree, holds, is_param}
+use Rattle.ir_trees.specs.Syntax.Words.{IsArgs, IsClause, IsVars, args_forest, clause_kind_tree, clause_tree}
 use Rattle.candidate_eval.specs.declared.eval.certainty.Certainty.TheVariants.{Yes}
 use Rattle.candidate_eval.specs.declared.eval.refusal.NoSolutionOrStop.{NoSolutionOrStop}
 use Rattle.candidate_eval.specs.declared.eval.response.Candidate.{Candidate}

@@ -1,8 +1,8 @@
 -- What a kind of goals says besides its rules.
 use Rattle.std.specs.Prelude.{◌≡◌, Option, Some, None, List, []}
-use Rattle.candidate_ir.specs.Declarations.Context.{Context, world}
-use Rattle.candidate_ir.specs.Declarations.Worlds.{Fits}
-use Rattle.candidate_ir.specs.Syntax.Trees.{Forest, Tree}
+use Rattle.ir_trees.specs.Declarations.Context.{Context, world}
+use Rattle.ir_trees.specs.Declarations.Worlds.{Fits}
+use Rattle.ir_trees.specs.Syntax.Trees.{Forest, Tree}
 use Rattle.candidate_eval.specs.Derivations.Rules.{Rule}
 use Rattle.candidate_eval.specs.Judges.States.{Env, State, Judge}
 use Rattle.candidate_assembly.specs.Goals.Kinds.{KindRules, self_type}

@@ -1,7 +1,7 @@
 -- Goals at a state: what the state's values must be like, so that normal forms and values put in are trees that a goal may hold.
 use Rattle.std.specs.Prelude.{◌≡◌, false}
-use Rattle.candidate_ir.specs.Unification.Substitutions.{alone}
-use Rattle.candidate_ir.specs.Syntax.Trees.{Forest, tree, Tree, holds, is_param}
+use Rattle.ir_trees.specs.Unification.Substitutions.{alone}
+use Rattle.ir_trees.specs.Syntax.Trees.{Forest, tree, Tree, holds, is_param}
 use Rattle.candidate_eval.specs.Derivations.ImplRules.{TraitGoal}
 use Rattle.candidate_eval.specs.Judges.Lawful.{HasNoParameter}
 use Rattle.candidate_eval.specs.Judges.Soundness.{AreTreesOf, GoalsAreOf, IsSound, Live, ValuesFit}

@@ -1,6 +1,6 @@
 -- What goals of traits give to assembly.
 use Rattle.std.specs.Prelude.{true, []}
-use Rattle.candidate_ir.specs.Syntax.Trees.{Forest}
+use Rattle.ir_trees.specs.Syntax.Trees.{Forest}
 use Rattle.candidate_eval.specs.Derivations.ImplRules.{TraitGoal}
 use Rattle.candidate_eval.specs.Judges.States.{Env}
 use Rattle.candidate_assembly.specs.Rules.BuiltinRules.{trait_rule}

@@ -2,38 +2,38 @@
 use Rattle.std.proofs.Common.{◌≡◌, ℕ, Bool, true, false, Option, Some, None, List, [], ◌∷◌, map, refl, sym, ap, subst, ◌∙◌}
 use Rattle.std.specs.List.{filter, list_any}
 use Rattle.std.specs.Prelude.{IfSome, ◌&&◌, ◌||◌, not, if◌then◌else◌}
-use Rattle.candidate_ir.specs.declared.decl.contents.ImplId.{ImplId}
-use Rattle.candidate_ir.specs.declared.decl.contents.LangItem.TheVariants as L
-use Rattle.candidate_ir.specs.declared.decl.contents.Sizedness.{Sizedness}
-use Rattle.candidate_ir.specs.declared.decl.definition.DefinitionKind.{DefinitionKind}
-use Rattle.candidate_ir.specs.declared.decl.definition.DefinitionKind.TheVariants as D
-use Rattle.candidate_ir.specs.declared.ir.heads.Head.{Head}
-use Rattle.candidate_ir.specs.declared.ir.heads.Head.TheVariants as H
-use Rattle.candidate_ir.specs.declared.ir.heads.PartHead.TheVariants as P
-use Rattle.candidate_ir.specs.declared.ir.kinds.AliasKind.TheVariants as AK
-use Rattle.candidate_ir.specs.declared.ir.kinds.Binder.{Binder}
-use Rattle.candidate_ir.specs.declared.ir.kinds.Clause.{Clause}
-use Rattle.candidate_ir.specs.declared.ir.kinds.ClosureKind.{ClosureKind}
-use Rattle.candidate_ir.specs.declared.ir.kinds.FnSig.{FnSig}
-use Rattle.candidate_ir.specs.declared.ir.kinds.Ty.{Ty}
-use Rattle.candidate_ir.specs.Declarations.Contents.{Impl}
-use Rattle.candidate_ir.specs.Declarations.Context.{Context, Grows, world}
-use Rattle.candidate_ir.specs.Declarations.Declaring.{adt_at, bounds_at, impl_at, trait_at}
-use Rattle.candidate_ir.specs.Instantiation.Folding.{substituted_tree}
-use Rattle.candidate_ir.specs.Validity.Held.{definition_held, held_sig}
-use Rattle.candidate_ir.specs.Unification.ImplLists.{head_impls, may_have_head}
-use Rattle.candidate_ir.specs.Unification.Impls.{impls_of, is_relevant, listed_type, may_be_for, relevant_impls, self_type}
-use Rattle.candidate_ir.specs.Syntax.Kinds.{is_fn_trait_compatible}
-use Rattle.candidate_ir.specs.Declarations.Lookups.{constraint, definition, fn_flags, fn_sig, hidden_type, maybe, adt_flags}
-use Rattle.candidate_ir.specs.Syntax.Nodes.{kind_at}
-use Rattle.candidate_ir.specs.Declarations.References.{IsWellFormed}
-use Rattle.candidate_ir.specs.Syntax.Trees.{Kind, TypeKind, BinderKind, Forest, none, tree, Tree, row}
-use Rattle.candidate_ir.specs.Validity.WellFormed.{AreGiven, ImplIsGiven, IsWellFormedTable, SignatureFits, TypesFit}
-use Rattle.candidate_ir.specs.Syntax.Words.{IsTy, clause_tree, ty_tree}
-use Rattle.candidate_ir.specs.Declarations.Worlds.{Fits, Reference, TraitSort, child_kinds, joined, kinds_of, parameters}
-use Rattle.candidate_ir.proofs.Validity.Given.{definition_given, hidden_fits, impl_given, sig_fits}
-use Rattle.candidate_ir.proofs.Growth.Kept.{args-kept, number-kept, ty-kept}
-use Rattle.candidate_ir.proofs.Syntax.Lists.{below_kind}
+use Rattle.ir_trees.specs.declared.decl.contents.ImplId.{ImplId}
+use Rattle.ir_trees.specs.declared.decl.contents.LangItem.TheVariants as L
+use Rattle.ir_trees.specs.declared.decl.contents.Sizedness.{Sizedness}
+use Rattle.ir_trees.specs.declared.decl.definition.DefinitionKind.{DefinitionKind}
+use Rattle.ir_trees.specs.declared.decl.definition.DefinitionKind.TheVariants as D
+use Rattle.ir_trees.specs.declared.ir.heads.Head.{Head}
+use Rattle.ir_trees.specs.declared.ir.heads.Head.TheVariants as H
+use Rattle.ir_trees.specs.declared.ir.heads.PartHead.TheVariants as P
+use Rattle.ir_trees.specs.declared.ir.kinds.AliasKind.TheVariants as AK
+use Rattle.ir_trees.specs.declared.ir.kinds.Binder.{Binder}
+use Rattle.ir_trees.specs.declared.ir.kinds.Clause.{Clause}
+use Rattle.ir_trees.specs.declared.ir.kinds.ClosureKind.{ClosureKind}
+use Rattle.ir_trees.specs.declared.ir.kinds.FnSig.{FnSig}
+use Rattle.ir_trees.specs.declared.ir.kinds.Ty.{Ty}
+use Rattle.ir_trees.specs.Declarations.Contents.{Impl}
+use Rattle.ir_trees.specs.Declarations.Context.{Context, Grows, world}
+use Rattle.ir_trees.specs.Declarations.Declaring.{adt_at, bounds_at, impl_at, trait_at}
+use Rattle.ir_trees.specs.Instantiation.Folding.{substituted_tree}
+use Rattle.ir_trees.specs.Validity.Held.{definition_held, held_sig}
+use Rattle.ir_trees.specs.Unification.ImplLists.{head_impls, may_have_head}
+use Rattle.ir_trees.specs.Unification.Impls.{impls_of, is_relevant, listed_type, may_be_for, relevant_impls, self_type}
+use Rattle.ir_trees.specs.Syntax.Kinds.{is_fn_trait_compatible}
+use Rattle.ir_trees.specs.Declarations.Lookups.{constraint, definition, fn_flags, fn_sig, hidden_type, maybe, adt_flags}
+use Rattle.ir_trees.specs.Syntax.Nodes.{kind_at}
+use Rattle.ir_trees.specs.Declarations.References.{IsWellFormed}
+use Rattle.ir_trees.specs.Syntax.Trees.{Kind, TypeKind, BinderKind, Forest, none, tree, Tree, row}
+use Rattle.ir_trees.specs.Validity.WellFormed.{AreGiven, ImplIsGiven, IsWellFormedTable, SignatureFits, TypesFit}
+use Rattle.ir_trees.specs.Syntax.Words.{IsTy, clause_tree, ty_tree}
+use Rattle.ir_trees.specs.Declarations.Worlds.{Fits, Reference, TraitSort, child_kinds, joined, kinds_of, parameters}
+use Rattle.ir_context.proofs.Validity.Given.{definition_given, hidden_fits, impl_given, sig_fits}
+use Rattle.ir_trees.proofs.Growth.Kept.{args-kept, number-kept, ty-kept}
+use Rattle.ir_trees.proofs.Syntax.Lists.{below_kind}
 use Rattle.candidate_eval.specs.declared.eval.certainty.Certainty.TheVariants.{Yes}
 use Rattle.candidate_eval.specs.declared.eval.source.BuiltinImplSource.TheVariants.{Trivial}
 use Rattle.candidate_eval.specs.declared.eval.source.CandidateSource.TheVariants.{BuiltinImpl}

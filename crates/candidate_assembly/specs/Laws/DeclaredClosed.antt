@@ -4,36 +4,36 @@ use Rattle.std.specs.Prelude.{if◌then◌else◌, option_map, slice_get}
 use Rattle.std.specs.List.{list_any}
 use Rattle.std.proofs.lemmas.List.Elements.{All-cons, All-nil, All-weaker}
 use Rattle.std.proofs.lemmas.Option.{slice_get-map}
-use Rattle.candidate_ir.specs.declared.decl.definition.AssocKind.{AssocKind}
-use Rattle.candidate_ir.specs.declared.decl.definition.AssocKind.TheVariants as A
-use Rattle.candidate_ir.specs.declared.decl.definition.DefinitionKind.{DefinitionKind}
-use Rattle.candidate_ir.specs.declared.decl.definition.DefinitionKind.TheVariants as D
-use Rattle.candidate_ir.specs.declared.ir.heads.Head.{Head}
-use Rattle.candidate_ir.specs.declared.ir.heads.Head.TheVariants as H
-use Rattle.candidate_ir.specs.declared.ir.heads.Variable.{Variable}
-use Rattle.candidate_ir.specs.declared.ir.kinds.Binder.{Binder}
-use Rattle.candidate_ir.specs.declared.ir.kinds.Clause.{Clause}
-use Rattle.candidate_ir.specs.declared.ir.kinds.FnSig.{FnSig}
-use Rattle.candidate_ir.specs.declared.ir.kinds.RegionKind.TheVariants as R
-use Rattle.candidate_ir.specs.declared.ir.kinds.VarKind.{VarKind}
-use Rattle.candidate_ir.specs.Declarations.Contents.{TraitContents}
-use Rattle.candidate_ir.specs.Declarations.Context.{Context, assoc_sort, definition_of, parameter_kind, sort_of, world}
-use Rattle.candidate_ir.specs.Declarations.Declaration.{Declaration}
-use Rattle.candidate_ir.specs.Declarations.Declaring.{place_of, trait_at, trait_place}
-use Rattle.candidate_ir.specs.Validity.Held.{definitions_held, held_clause, held_clauses, held_sig, impls_held, trait_held}
-use Rattle.candidate_ir.specs.Declarations.Lookups.{definition, fn_sig, kind_of_declared, maybe}
-use Rattle.candidate_ir.specs.Validity.Misplaced.{has_self, kinds_of_declared, kinds_of_owner, with_self}
-use Rattle.candidate_ir.specs.Syntax.Nodes.{tree_at}
-use Rattle.candidate_ir.specs.Instantiation.Owned.{is_unsolved}
-use Rattle.candidate_ir.specs.Hierarchy.Supers.{supers_at}
-use Rattle.candidate_ir.specs.Syntax.Trees.{Kind, Forest, none, Tree, holds, is_list, put, row, tree_holds}
-use Rattle.candidate_ir.specs.Validity.WellFormed.{IsWellFormedTable}
-use Rattle.candidate_ir.specs.Syntax.Words.{args_forest, clause_tree, ty_tree, vars_tree}
-use Rattle.candidate_ir.specs.Declarations.Worlds.{TraitSort, parameters, parameters_of, sort_number}
-use Rattle.candidate_ir.proofs.Instantiation.Folding.{or-left, or-right}
-use Rattle.candidate_ir.proofs.Instantiation.Owned.{none-stray, or-none}
-use Rattle.candidate_ir.proofs.Syntax.Splits.{holds-join}
-use Rattle.candidate_ir.proofs.Validity.WellFormed.{any-of, any-right, definition-passes}
+use Rattle.ir_trees.specs.declared.decl.definition.AssocKind.{AssocKind}
+use Rattle.ir_trees.specs.declared.decl.definition.AssocKind.TheVariants as A
+use Rattle.ir_trees.specs.declared.decl.definition.DefinitionKind.{DefinitionKind}
+use Rattle.ir_trees.specs.declared.decl.definition.DefinitionKind.TheVariants as D
+use Rattle.ir_trees.specs.declared.ir.heads.Head.{Head}
+use Rattle.ir_trees.specs.declared.ir.heads.Head.TheVariants as H
+use Rattle.ir_trees.specs.declared.ir.heads.Variable.{Variable}
+use Rattle.ir_trees.specs.declared.ir.kinds.Binder.{Binder}
+use Rattle.ir_trees.specs.declared.ir.kinds.Clause.{Clause}
+use Rattle.ir_trees.specs.declared.ir.kinds.FnSig.{FnSig}
+use Rattle.ir_trees.specs.declared.ir.kinds.RegionKind.TheVariants as R
+use Rattle.ir_trees.specs.declared.ir.kinds.VarKind.{VarKind}
+use Rattle.ir_trees.specs.Declarations.Contents.{TraitContents}
+use Rattle.ir_trees.specs.Declarations.Context.{Context, assoc_sort, definition_of, parameter_kind, sort_of, world}
+use Rattle.ir_trees.specs.Declarations.Declaration.{Declaration}
+use Rattle.ir_trees.specs.Declarations.Declaring.{place_of, trait_at, trait_place}
+use Rattle.ir_trees.specs.Validity.Held.{definitions_held, held_clause, held_clauses, held_sig, impls_held, trait_held}
+use Rattle.ir_trees.specs.Declarations.Lookups.{definition, fn_sig, kind_of_declared, maybe}
+use Rattle.ir_trees.specs.Validity.Misplaced.{has_self, kinds_of_declared, kinds_of_owner, with_self}
+use Rattle.ir_trees.specs.Syntax.Nodes.{tree_at}
+use Rattle.ir_trees.specs.Instantiation.Owned.{is_unsolved}
+use Rattle.ir_trees.specs.Hierarchy.Supers.{supers_at}
+use Rattle.ir_trees.specs.Syntax.Trees.{Kind, Forest, none, Tree, holds, is_list, put, row, tree_holds}
+use Rattle.ir_trees.specs.Validity.WellFormed.{IsWellFormedTable}
+use Rattle.ir_trees.specs.Syntax.Words.{args_forest, clause_tree, ty_tree, vars_tree}
+use Rattle.ir_trees.specs.Declarations.Worlds.{TraitSort, parameters, parameters_of, sort_number}
+use Rattle.ir_trees.proofs.Instantiation.Folding.{or-left, or-right}
+use Rattle.ir_context.proofs.Instantiation.Owned.{none-stray, or-none}
+use Rattle.ir_trees.proofs.Syntax.Splits.{holds-join}
+use Rattle.ir_context.proofs.Validity.WellFormed.{any-of, any-right, definition-passes}
 use Rattle.candidate_eval.specs.Builtins.Callable.{declared_signature, tuple_of}
 use Rattle.candidate_eval.proofs.Marks.Holds.{holds_imply, or_false}
 use Rattle.candidate_eval.proofs.Marks.Marking.{unmarked}

@@ -3,24 +3,24 @@ use Rattle.std.proofs.Common.{zero, suc, Bool, true, false, not, ◌||◌, ◌�
 use Rattle.std.specs.List.{list_any}
 use Rattle.std.specs.Prelude.{IfSome, ◌==◌, if◌then◌else◌, option_map, slice_get}
 use Rattle.std.proofs.lemmas.Option.{slice_get-map}
-use Rattle.candidate_ir.specs.declared.decl.contents.Sizedness.{Sizedness}
-use Rattle.candidate_ir.specs.declared.decl.definition.AdtShape.{AdtShape}
-use Rattle.candidate_ir.specs.declared.decl.definition.AssocKind.TheVariants as A
-use Rattle.candidate_ir.specs.declared.decl.definition.DefinitionKind.{DefinitionKind}
-use Rattle.candidate_ir.specs.declared.decl.definition.DefinitionKind.TheVariants as D
-use Rattle.candidate_ir.specs.Declarations.Contents.{AdtContents, Bounds, TraitContents}
-use Rattle.candidate_ir.specs.Declarations.Context.{Context, definition_of, is_declared_trait, is_trait, is_unknown, lacks_trait, parameter_kind, sort_of, world}
-use Rattle.candidate_ir.specs.Declarations.Declaration.{Declaration}
-use Rattle.candidate_ir.specs.Declarations.Declaring.{adt_at, adt_place, bounds_at, bounds_place, no_place, place_of, trait_at, trait_place}
-use Rattle.candidate_ir.specs.Validity.Held.{definition_held}
-use Rattle.candidate_ir.specs.Declarations.Lookups.{adt_shape, assoc_trait, constraint, definition, kind_of_declared, maybe}
-use Rattle.candidate_ir.specs.Hierarchy.Supers.{supers_at}
-use Rattle.candidate_ir.specs.Syntax.Trees.{Kind, Tree}
-use Rattle.candidate_ir.specs.Validity.WellFormed.{AreGiven, IsWellFormedTable, TypesFit}
-use Rattle.candidate_ir.specs.Syntax.Words.{ClauseListFits, IsTy}
-use Rattle.candidate_ir.specs.Declarations.Worlds.{AdtSort, AssociatedTypeSort, DefinitionSort, OpaqueSort, TraitSort, parameters, parameters_of, sort_number}
-use Rattle.candidate_ir.proofs.Instantiation.Folding.{or-left, or-right}
-use Rattle.candidate_ir.proofs.Validity.Given.{adt_given, bounds_given, constraint_fits, definition_given, fields_fit, self_bounds_fit, supers_fit, trait_given, wheres_fit}
+use Rattle.ir_trees.specs.declared.decl.contents.Sizedness.{Sizedness}
+use Rattle.ir_trees.specs.declared.decl.definition.AdtShape.{AdtShape}
+use Rattle.ir_trees.specs.declared.decl.definition.AssocKind.TheVariants as A
+use Rattle.ir_trees.specs.declared.decl.definition.DefinitionKind.{DefinitionKind}
+use Rattle.ir_trees.specs.declared.decl.definition.DefinitionKind.TheVariants as D
+use Rattle.ir_trees.specs.Declarations.Contents.{AdtContents, Bounds, TraitContents}
+use Rattle.ir_trees.specs.Declarations.Context.{Context, definition_of, is_declared_trait, is_trait, is_unknown, lacks_trait, parameter_kind, sort_of, world}
+use Rattle.ir_trees.specs.Declarations.Declaration.{Declaration}
+use Rattle.ir_trees.specs.Declarations.Declaring.{adt_at, adt_place, bounds_at, bounds_place, no_place, place_of, trait_at, trait_place}
+use Rattle.ir_trees.specs.Validity.Held.{definition_held}
+use Rattle.ir_trees.specs.Declarations.Lookups.{adt_shape, assoc_trait, constraint, definition, kind_of_declared, maybe}
+use Rattle.ir_trees.specs.Hierarchy.Supers.{supers_at}
+use Rattle.ir_trees.specs.Syntax.Trees.{Kind, Tree}
+use Rattle.ir_trees.specs.Validity.WellFormed.{AreGiven, IsWellFormedTable, TypesFit}
+use Rattle.ir_trees.specs.Syntax.Words.{ClauseListFits, IsTy}
+use Rattle.ir_trees.specs.Declarations.Worlds.{AdtSort, AssociatedTypeSort, DefinitionSort, OpaqueSort, TraitSort, parameters, parameters_of, sort_number}
+use Rattle.ir_trees.proofs.Instantiation.Folding.{or-left, or-right}
+use Rattle.ir_context.proofs.Validity.Given.{adt_given, bounds_given, constraint_fits, definition_given, fields_fit, self_bounds_fit, supers_fit, trait_given, wheres_fit}
 use Rattle.candidate_assembly.specs.Goals.Projections.{trait_number}
 
 -- What a data type, a trait, or what has bounds holds, if it is there: types and clauses that are given.

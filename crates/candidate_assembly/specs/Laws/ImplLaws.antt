@@ -2,26 +2,26 @@
 -- have.
 use Rattle.std.proofs.Common.{◌≡◌, ℕ, suc, arith, false, refl, ap, ◌∙◌, List, [], ◌∷◌, ◌++◌, ◌&&◌, map, Option, Some, None}
 use Rattle.std.specs.Prelude.{All, IfSome}
-use Rattle.candidate_ir.specs.declared.decl.contents.ImplId.{ImplId}
-use Rattle.candidate_ir.specs.declared.ir.kinds.Clause.{Clause}
-use Rattle.candidate_ir.specs.declared.ir.kinds.GoalSource.{GoalSource}
-use Rattle.candidate_ir.specs.declared.ir.kinds.VarKind.{VarKind}
-use Rattle.candidate_ir.specs.declared.ir.kinds.VarKind.TheVariants as V
-use Rattle.candidate_ir.specs.declared.ir.heads.VariableSort.TheVariants.{General, Constant}
-use Rattle.candidate_ir.specs.declared.ir.unify.RightSide.TheVariants as R
-use Rattle.candidate_ir.specs.Declarations.Context.{Context, Grows, parameter_kind}
-use Rattle.candidate_ir.specs.Declarations.Contents.{Impl}
-use Rattle.candidate_ir.specs.Declarations.Declaring.{impl_at}
-use Rattle.candidate_ir.specs.Declarations.Lookups.{maybe}
-use Rattle.candidate_ir.specs.Instantiation.Owned.{ImplIsOwned, is_unsolved}
-use Rattle.candidate_ir.specs.Syntax.Trees.{TypeKind, ConstantKind, RegionKind, Forest, Tree, tree_holds}
-use Rattle.candidate_ir.specs.Unification.Unify.{may_unify}
-use Rattle.candidate_ir.specs.Validity.WellFormed.{ImplIsGiven, IsWellFormedTable}
-use Rattle.candidate_ir.specs.Syntax.Words.{args_forest, clause_tree}
-use Rattle.candidate_ir.specs.Declarations.Worlds.{kinds_of}
-use Rattle.candidate_ir.proofs.Instantiation.Declared.{impl_owned}
-use Rattle.candidate_ir.proofs.Validity.Given.{impl_given}
-use Rattle.candidate_ir.proofs.Growth.Kept.{args-kept}
+use Rattle.ir_trees.specs.declared.decl.contents.ImplId.{ImplId}
+use Rattle.ir_trees.specs.declared.ir.kinds.Clause.{Clause}
+use Rattle.ir_trees.specs.declared.ir.kinds.GoalSource.{GoalSource}
+use Rattle.ir_trees.specs.declared.ir.kinds.VarKind.{VarKind}
+use Rattle.ir_trees.specs.declared.ir.kinds.VarKind.TheVariants as V
+use Rattle.ir_trees.specs.declared.ir.heads.VariableSort.TheVariants.{General, Constant}
+use Rattle.ir_trees.specs.declared.ir.unify.RightSide.TheVariants as R
+use Rattle.ir_trees.specs.Declarations.Context.{Context, Grows, parameter_kind}
+use Rattle.ir_trees.specs.Declarations.Contents.{Impl}
+use Rattle.ir_trees.specs.Declarations.Declaring.{impl_at}
+use Rattle.ir_trees.specs.Declarations.Lookups.{maybe}
+use Rattle.ir_trees.specs.Instantiation.Owned.{ImplIsOwned, is_unsolved}
+use Rattle.ir_trees.specs.Syntax.Trees.{TypeKind, ConstantKind, RegionKind, Forest, Tree, tree_holds}
+use Rattle.ir_trees.specs.Unification.Unify.{may_unify}
+use Rattle.ir_trees.specs.Validity.WellFormed.{ImplIsGiven, IsWellFormedTable}
+use Rattle.ir_trees.specs.Syntax.Words.{args_forest, clause_tree}
+use Rattle.ir_trees.specs.Declarations.Worlds.{kinds_of}
+use Rattle.ir_context.proofs.Instantiation.Declared.{impl_owned}
+use Rattle.ir_context.proofs.Validity.Given.{impl_given}
+use Rattle.ir_trees.proofs.Growth.Kept.{args-kept}
 use Rattle.candidate_eval.specs.declared.eval.mode.TypingMode.{TypingMode}
 use Rattle.candidate_eval.specs.declared.eval.mode.TypingMode.TheVariants.{Coherence}
 use Rattle.candidate_eval.specs.declared.eval.variable.VariableKind.TheVariants.{Term, Region}

@@ -1,16 +1,16 @@
 -- What a clause names is given, and a tree fits. Arguments of a context fit.
 use Rattle.std.proofs.Common.{◌≡◌, Some, List, [], ◌∷◌}
 use Rattle.std.specs.Prelude.{IfSome}
-use Rattle.candidate_ir.specs.declared.ir.heads.Head.{Head}
-use Rattle.candidate_ir.specs.declared.ir.heads.PartHead.TheVariants as P
-use Rattle.candidate_ir.specs.declared.ir.kinds.Args.{Args}
-use Rattle.candidate_ir.specs.Declarations.Context.{Context, world}
-use Rattle.candidate_ir.specs.Hierarchy.Elaboration.{trait_of}
-use Rattle.candidate_ir.specs.Syntax.Trees.{Tree}
-use Rattle.candidate_ir.specs.Validity.WellFormed.{IsWellFormedTable}
-use Rattle.candidate_ir.specs.Syntax.Words.{IsArgs, args_forest}
-use Rattle.candidate_ir.specs.Declarations.Worlds.{Fits, World, child_kinds, kinds_of}
-use Rattle.candidate_ir.proofs.Kinding.References.{args-fit}
+use Rattle.ir_trees.specs.declared.ir.heads.Head.{Head}
+use Rattle.ir_trees.specs.declared.ir.heads.PartHead.TheVariants as P
+use Rattle.ir_trees.specs.declared.ir.kinds.Args.{Args}
+use Rattle.ir_trees.specs.Declarations.Context.{Context, world}
+use Rattle.ir_trees.specs.Hierarchy.Elaboration.{trait_of}
+use Rattle.ir_trees.specs.Syntax.Trees.{Tree}
+use Rattle.ir_trees.specs.Validity.WellFormed.{IsWellFormedTable}
+use Rattle.ir_trees.specs.Syntax.Words.{IsArgs, args_forest}
+use Rattle.ir_trees.specs.Declarations.Worlds.{Fits, World, child_kinds, kinds_of}
+use Rattle.ir_trees.proofs.Kinding.References.{args-fit}
 use Rattle.candidate_assembly.specs.Laws.BuiltinLaws.{nodes_fit}
 use Rattle.candidate_assembly.specs.Laws.Given.{TraitIsGiven}
 

@@ -2,20 +2,20 @@
 use Rattle.std.proofs.Common.{◌≡◌, ℕ, Bool, true, false, refl, ap, Option, Some, None, List, [], ◌∷◌}
 use Rattle.std.specs.Prelude.{◌&&◌}
 use Rattle.std.proofs.lemmas.List.Elements.{All-nil}
-use Rattle.candidate_ir.specs.declared.ir.heads.ClauseHead.TheVariants as Cl
-use Rattle.candidate_ir.specs.declared.ir.heads.Head.{Head}
-use Rattle.candidate_ir.specs.declared.ir.heads.Head.TheVariants as H
-use Rattle.candidate_ir.specs.declared.ir.heads.PartHead.TheVariants as P
-use Rattle.candidate_ir.specs.declared.ir.kinds.Clause.{Clause}
-use Rattle.candidate_ir.specs.Syntax.Binders.{escapes}
-use Rattle.candidate_ir.specs.Declarations.Context.{Context, world}
-use Rattle.candidate_ir.specs.Declarations.References.{FitsAmong, IsWellFormed}
-use Rattle.candidate_ir.specs.Unification.Substitutions.{alone}
-use Rattle.candidate_ir.specs.Hierarchy.Supers.{after_first}
-use Rattle.candidate_ir.specs.Syntax.Trees.{Kind, TypeKind, BinderKind, Forest, none, tree, Tree, holds}
-use Rattle.candidate_ir.specs.Syntax.Words.{clause_tree}
-use Rattle.candidate_ir.specs.Declarations.Worlds.{TraitSort, joined, kinds_of, parameters}
-use Rattle.candidate_ir.proofs.Kinding.References.{fit-at}
+use Rattle.ir_trees.specs.declared.ir.heads.ClauseHead.TheVariants as Cl
+use Rattle.ir_trees.specs.declared.ir.heads.Head.{Head}
+use Rattle.ir_trees.specs.declared.ir.heads.Head.TheVariants as H
+use Rattle.ir_trees.specs.declared.ir.heads.PartHead.TheVariants as P
+use Rattle.ir_trees.specs.declared.ir.kinds.Clause.{Clause}
+use Rattle.ir_trees.specs.Syntax.Binders.{escapes}
+use Rattle.ir_trees.specs.Declarations.Context.{Context, world}
+use Rattle.ir_trees.specs.Declarations.References.{FitsAmong, IsWellFormed}
+use Rattle.ir_trees.specs.Unification.Substitutions.{alone}
+use Rattle.ir_trees.specs.Hierarchy.Supers.{after_first}
+use Rattle.ir_trees.specs.Syntax.Trees.{Kind, TypeKind, BinderKind, Forest, none, tree, Tree, holds}
+use Rattle.ir_trees.specs.Syntax.Words.{clause_tree}
+use Rattle.ir_trees.specs.Declarations.Worlds.{TraitSort, joined, kinds_of, parameters}
+use Rattle.ir_trees.proofs.Kinding.References.{fit-at}
 use Rattle.candidate_eval.specs.Derivations.ImplRules.{TraitGoal}
 use Rattle.candidate_eval.specs.Derivations.Mentions.{RuleBelow}
 use Rattle.candidate_eval.specs.Dynamic.ObjectRequirements.{first_tree}

@@ -1,7 +1,7 @@
 -- The rules of the language by the names that the code has for them.
 use Rattle.std.specs.Prelude.{ℕ, Option, Some, None, if◌then◌else◌}
-use Rattle.candidate_ir.specs.declared.decl.contents.LangItem.{LangItem}
-use Rattle.candidate_ir.specs.Declarations.Context.{Context}
+use Rattle.ir_trees.specs.declared.decl.contents.LangItem.{LangItem}
+use Rattle.ir_trees.specs.Declarations.Context.{Context}
 use Rattle.candidate_assembly.specs.declared.assembly.language.LanguageRule.{LanguageRule}
 use Rattle.candidate_assembly.specs.declared.assembly.language.LanguageRule.TheVariants as R
 use Rattle.candidate_assembly.specs.Answers.Assembled.{rule_of_item}

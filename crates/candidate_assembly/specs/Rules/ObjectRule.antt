@@ -1,7 +1,7 @@
 -- What a clause of a `dyn` type comes to is what the judge says to one rule.
 use Rattle.std.specs.Prelude.{◌≡◌, true, List, length}
-use Rattle.candidate_ir.specs.Declarations.Context.{Context}
-use Rattle.candidate_ir.specs.Syntax.Trees.{Forest, Tree, count}
+use Rattle.ir_trees.specs.Declarations.Context.{Context}
+use Rattle.ir_trees.specs.Syntax.Trees.{Forest, Tree, count}
 use Rattle.candidate_eval.specs.Derivations.Characterization.{bound_kinds}
 use Rattle.candidate_eval.specs.Derivations.Judging.{At, Judged, Place, judged, made_fresh}
 use Rattle.candidate_eval.specs.Dynamic.ObjectRequirements.{first_tree, fresh_arguments}

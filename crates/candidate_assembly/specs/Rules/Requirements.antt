@@ -1,10 +1,10 @@
 -- What a rule requires besides the clause that it matches: clauses, each with the source of the goal that it becomes.
 use Rattle.std.specs.Prelude.{◌≡◌, All, false, true, List, ◌++◌, map}
-use Rattle.candidate_ir.specs.declared.ir.kinds.Clause.{Clause}
-use Rattle.candidate_ir.specs.declared.ir.kinds.GoalSource.{GoalSource}
-use Rattle.candidate_ir.specs.declared.ir.kinds.ParamEnv.{ParamEnv}
-use Rattle.candidate_ir.specs.Syntax.Trees.{Tree, is_param, tree_holds}
-use Rattle.candidate_ir.specs.Syntax.Words.{IsClause, clause_tree}
+use Rattle.ir_trees.specs.declared.ir.kinds.Clause.{Clause}
+use Rattle.ir_trees.specs.declared.ir.kinds.GoalSource.{GoalSource}
+use Rattle.ir_trees.specs.declared.ir.kinds.ParamEnv.{ParamEnv}
+use Rattle.ir_trees.specs.Syntax.Trees.{Tree, is_param, tree_holds}
+use Rattle.ir_trees.specs.Syntax.Words.{IsClause, clause_tree}
 use Rattle.candidate_eval.specs.declared.eval.certainty.Certainty.TheVariants.{Yes}
 use Rattle.candidate_eval.specs.declared.eval.source.BuiltinImplSource.TheVariants.{Misc}
 use Rattle.candidate_eval.specs.declared.eval.source.CandidateSource.TheVariants.{BuiltinImpl}

@@ -1,11 +1,11 @@
 //! The bounds of an alias, as clauses that may prove what is asked of it.
 
 ghost use Rattle.std.specs.Prelude.{◌≡◌, All, [], false, length, IfOk, IfErr};
-ghost use Rattle.candidate_ir.specs.Declarations.Context.{Grows};
-ghost use Rattle.candidate_ir.specs.declared.ir.kinds.TyKind.TheVariants as kinds;
-ghost use Rattle.candidate_ir.specs.Instantiation.Owned.{AliasArgumentsFit, is_unsolved};
-ghost use Rattle.candidate_ir.specs.Syntax.Trees.{holds, is_param, tree_holds};
-ghost use Rattle.candidate_ir.specs.Syntax.Words.{ClauseListFits, IsArgs, IsClause, args_forest, clause_tree, kind_tree};
+ghost use Rattle.ir_trees.specs.Declarations.Context.{Grows};
+ghost use Rattle.ir_trees.specs.declared.ir.kinds.TyKind.TheVariants as kinds;
+ghost use Rattle.ir_trees.specs.Instantiation.Owned.{AliasArgumentsFit, is_unsolved};
+ghost use Rattle.ir_trees.specs.Syntax.Trees.{holds, is_param, tree_holds};
+ghost use Rattle.ir_trees.specs.Syntax.Words.{ClauseListFits, IsArgs, IsClause, args_forest, clause_tree, kind_tree};
 ghost use Rattle.candidate_eval.specs.Interface.Unmade.{IsUnmade};
 ghost use Rattle.candidate_eval.specs.Derivations.Mentions.{IsBelow};
 ghost use Rattle.candidate_eval.specs.Outcomes.ResponseTrees.{AreCandidates};
@@ -26,11 +26,11 @@ use candidate_eval::eval::context::EvalCtxt;
 use candidate_eval::eval::refusal::NoSolutionOrStop;
 use candidate_eval::eval::response::Candidate;
 use candidate_eval::eval::source::CandidateSource;
-use candidate_ir::decl::contents::AliasBoundKind;
-use candidate_ir::decl::make::Make;
-use candidate_ir::decl::subst::subst;
-use candidate_ir::ir::kinds::{AliasTy, Clause, GoalSource, ParamEnv};
-use candidate_ir::ir::stop::Stop;
+use ir_context::decl::make::Make;
+use ir_folds::decl::subst::subst;
+use ir_trees::decl::contents::AliasBoundKind;
+use ir_trees::ir::kinds::{AliasTy, Clause, GoalSource, ParamEnv};
+use ir_trees::ir::stop::Stop;
 use std::alloc::Global;
 
 /// The bounds of the alias, its own or those of what it is a projection of, in order, with its arguments in the place of parameters. No

@@ -1,9 +1,9 @@
 //! The chain of aliases that a goal's self type begins: the alias, what it is a projection of, and so on, whose bounds may prove the goal.
 
 ghost use Rattle.std.specs.Prelude.{◌≡◌, None, false, true, IfSome};
-ghost use Rattle.candidate_ir.specs.Syntax.Words.{IsParamEnv, IsTy, env_forest, kind_tree, ty_tree};
-ghost use Rattle.candidate_ir.specs.declared.ir.heads.Head.TheVariants as head;
-ghost use Rattle.candidate_ir.specs.declared.ir.kinds.TyKind.TheVariants as kinds;
+ghost use Rattle.ir_trees.specs.Syntax.Words.{IsParamEnv, IsTy, env_forest, kind_tree, ty_tree};
+ghost use Rattle.ir_trees.specs.declared.ir.heads.Head.TheVariants as head;
+ghost use Rattle.ir_trees.specs.declared.ir.kinds.TyKind.TheVariants as kinds;
 ghost use Rattle.candidate_eval.specs.Builtins.Asked.{first_ty};
 ghost use Rattle.candidate_eval.specs.Dynamic.ObjectRequirements.{first_tree};
 ghost use Rattle.candidate_eval.specs.Judges.States.{State};
@@ -22,11 +22,11 @@ use crate::assembly::listing::{push_considered, recall_well_formed_table};
 use candidate_eval::eval::context::{EvalCtxt, ProbeKind};
 use candidate_eval::eval::refusal::NoSolutionOrStop;
 use candidate_eval::eval::response::Candidate;
-use candidate_ir::decl::Cx;
-use candidate_ir::decl::contents::AliasBoundKind;
-use candidate_ir::ir::kinds::{AliasKind, AliasTy, GenericArg, InferTy, ParamEnv, Ty, TyKind};
-use candidate_ir::ir::stop::Stop;
-use candidate_ir::ir::trees::Trees;
+use ir_context::decl::Cx;
+use ir_trees::decl::contents::AliasBoundKind;
+use ir_trees::ir::kinds::{AliasKind, AliasTy, GenericArg, InferTy, ParamEnv, Ty, TyKind};
+use ir_trees::ir::stop::Stop;
+use ir_trees::ir::trees::Trees;
 use std::alloc::Global;
 
 /// The alias that the type is, if it is one that has bounds: a projection, or an opaque type.

@@ -2,7 +2,7 @@
 
 ghost use Rattle.std.specs.Prelude.{◌≡◌, List};
 ghost use Rattle.candidate_eval.specs.Outcomes.ResponseTrees.{AreCandidates, IsResponse, candidate_of, candidates_of};
-ghost use Rattle.candidate_ir.specs.Syntax.Trees.{Tree};
+ghost use Rattle.ir_trees.specs.Syntax.Trees.{Tree};
 ghost use Rattle.candidate_assembly.specs.Answers.Assembled.{AfterWhereBounds, ThenImplsAndObjects, ThenUnsizing, has_where_bound, is_local_assumption, is_of_environment, is_shadowed, leaves_out, shadows};
 ghost use Rattle.candidate_assembly.specs.Calls.Assembling.{UnsizingFollows};
 ghost use Rattle.candidate_assembly.specs.Goals.Kinds.{HasKnownSelfType};
@@ -24,10 +24,10 @@ use candidate_eval::eval::response::{
     Candidate, CandidateHeadUsages, has_no_inference_or_external_constraints,
 };
 use candidate_eval::eval::source::{CandidateSource, ParamEnvSource};
-use candidate_ir::decl::Cx;
-use candidate_ir::decl::contents::LangItem;
-use candidate_ir::ir::kinds::ParamEnv;
-use candidate_ir::ir::stop::Stop;
+use ir_context::decl::Cx;
+use ir_trees::decl::contents::LangItem;
+use ir_trees::ir::kinds::ParamEnv;
+use ir_trees::ir::stop::Stop;
 use std::alloc::Global;
 
 /// Whether it's a clause of the environment that isn't global, or a bound of an alias.

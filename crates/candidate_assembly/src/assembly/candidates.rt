@@ -1,8 +1,8 @@
 //! All ways in which a goal can be proved, in one list.
 
 ghost use Rattle.std.specs.Prelude.{◌≡◌, ◌∷◌, [], IfErr, IfOk};
-ghost use Rattle.candidate_ir.specs.declared.ir.stop.Stop.TheVariants.{Memory};
-ghost use Rattle.candidate_ir.specs.Syntax.Words.{IsTy, ty_tree};
+ghost use Rattle.ir_trees.specs.declared.ir.stop.Stop.TheVariants.{Memory};
+ghost use Rattle.ir_trees.specs.Syntax.Words.{IsTy, ty_tree};
 ghost use Rattle.candidate_assembly.specs.Answers.Assembled.{AnswersOneTrivial};
 ghost use Rattle.candidate_assembly.specs.Goals.Kinds.{HasKnownSelfType};
 ghost use Rattle.candidate_assembly.specs.Goals.Standing.{GoalIsValid, IsValidBeside};
@@ -19,9 +19,9 @@ use candidate_eval::eval::context::EvalCtxt;
 use candidate_eval::eval::refusal::NoSolutionOrStop;
 use candidate_eval::eval::resolving::resolve_env_if_possible;
 use candidate_eval::eval::response::{Candidate, CandidateHeadUsages};
-use candidate_ir::ir::kinds::{ParamEnv, Ty};
-use candidate_ir::ir::stop::Stop;
-use candidate_ir::ir::trees::Trees;
+use ir_trees::ir::kinds::{ParamEnv, Ty};
+use ir_trees::ir::stop::Stop;
+use ir_trees::ir::trees::Trees;
 use std::alloc::Global;
 
 /// What is kept of candidates that were refused.

@@ -1,12 +1,12 @@
 //! Whether a clause of the environment is global: whether it says nothing of what is generic there.
 
 ghost use Rattle.std.specs.Prelude.{◌≡◌, ◌≤◌, ◌<◌, ◌+◌, [], ◌∷◌, true, false, refl, None, Some, Err, IfOk, IfErr, IfSome, MatchOption, length};
-ghost use Rattle.candidate_ir.specs.Declarations.Context.{parameter_kind};
-ghost use Rattle.candidate_ir.specs.Instantiation.Folds.{IsArg, arg_tree};
-ghost use Rattle.candidate_ir.specs.Syntax.Nodes.{tree_at};
-ghost use Rattle.candidate_ir.specs.Instantiation.Opening.{opened_tree};
-ghost use Rattle.candidate_ir.specs.Syntax.Trees.{Tree};
-ghost use Rattle.candidate_ir.specs.Syntax.Words.{IsArgs, IsClause, IsParamEnv, args_forest, clause_tree, env_forest};
+ghost use Rattle.ir_trees.specs.Declarations.Context.{parameter_kind};
+ghost use Rattle.ir_trees.specs.Instantiation.Folds.{IsArg, arg_tree};
+ghost use Rattle.ir_trees.specs.Syntax.Nodes.{tree_at};
+ghost use Rattle.ir_trees.specs.Instantiation.Opening.{opened_tree};
+ghost use Rattle.ir_trees.specs.Syntax.Trees.{Tree};
+ghost use Rattle.ir_trees.specs.Syntax.Words.{IsArgs, IsClause, IsParamEnv, args_forest, clause_tree, env_forest};
 ghost use Rattle.candidate_eval.specs.Interface.Accounts.{by_stop, if_refused};
 ghost use Rattle.candidate_eval.specs.Derivations.Characterization.{Walk, Refuses, Stops, bound_kinds, characterization, each_group, group_of, groups, is_any_bound, is_of_interest, looked, region_seen, under_binder, variable_of_binder};
 ghost use Rattle.candidate_eval.specs.Interface.Evaluators.{kinds_listed};
@@ -23,17 +23,17 @@ use candidate_eval::eval::certainty::{Certainty, MaybeCause, MaybeInfo, OpaqueTy
 use candidate_eval::eval::context::EvalCtxt;
 use candidate_eval::eval::refusal::NoSolutionOrStop;
 use candidate_eval::eval::source::ParamEnvSource;
-use candidate_ir::decl::Cx;
-use candidate_ir::decl::open::replace_bound_vars;
-use candidate_ir::ir::heads::{ConstHead, Flag, Head, Marks, PartHead};
-use candidate_ir::ir::kinds::{
+use ir_context::decl::Cx;
+use ir_folds::decl::open::replace_bound_vars;
+use ir_trees::ir::heads::{ConstHead, Flag, Head, Marks, PartHead};
+use ir_trees::ir::kinds::{
     Args, Clause, ConstKind, GenericArg, ParamEnv, RegionKind, TyKind, VarKind,
 };
-use candidate_ir::ir::marks::Mark;
-use candidate_ir::ir::node::Node;
-use candidate_ir::ir::numbered::Numbered;
-use candidate_ir::ir::stop::Stop;
-use candidate_ir::ir::trees::Trees;
+use ir_trees::ir::marks::Mark;
+use ir_trees::ir::node::Node;
+use ir_trees::ir::numbered::Numbered;
+use ir_trees::ir::stop::Stop;
+use ir_trees::ir::trees::Trees;
 use std::alloc::Global;
 
 /// The mark of a bound variable, of any kind.

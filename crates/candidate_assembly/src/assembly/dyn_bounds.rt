@@ -2,27 +2,27 @@
 
 ghost use Rattle.std.specs.Prelude.{◌≡◌, ℕ, All, map, option_map, IfErr, IfOk, IfSome};
 ghost use Rattle.std.specs.List.{filter};
-ghost use Rattle.candidate_ir.specs.Declarations.Context.{Grows};
-ghost use Rattle.candidate_ir.specs.Syntax.Trees.{tree};
-ghost use Rattle.candidate_ir.specs.Syntax.Words.{ClauseListFits, IsClause, IsPred, IsPreds, IsRegion, IsTy, ListFits, PredFits, clause_tree, list_forest, pred_tree, preds_forest, region_tree, ty_tree};
-ghost use Rattle.candidate_ir.specs.declared.ir.heads.Head.TheVariants as H;
+ghost use Rattle.ir_trees.specs.Declarations.Context.{Grows};
+ghost use Rattle.ir_trees.specs.Syntax.Trees.{tree};
+ghost use Rattle.ir_trees.specs.Syntax.Words.{ClauseListFits, IsClause, IsPred, IsPreds, IsRegion, IsTy, ListFits, PredFits, clause_tree, list_forest, pred_tree, preds_forest, region_tree, ty_tree};
+ghost use Rattle.ir_trees.specs.declared.ir.heads.Head.TheVariants as H;
 ghost use Rattle.candidate_eval.specs.Interface.Unmade.{IsUnmade};
 ghost use Rattle.candidate_eval.specs.Dynamic.Required.{each_of};
 ghost use Rattle.candidate_eval.specs.Dynamic.ObjectRules.{IsRuleTree};
 ghost use Rattle.candidate_assembly.specs.Rules.DynBounds.{ArePrincipalSupers, bound_arguments, bound_said, bounds_in, first_listed, is_compatible, is_principal, kind_said, principal_in, region_in, trait_said};
 ghost use Rattle.candidate_assembly.specs.Calls.Upcasting.{IsRuleClause};
 
-use candidate_ir::decl::Cx;
-use candidate_ir::decl::elaborate::supertraits;
-use candidate_ir::decl::make::{Build, Make};
-use candidate_ir::ir::heads::{Head, PartHead, PredHead};
-use candidate_ir::ir::kinds::{
+use ir_context::decl::Cx;
+use ir_context::decl::make::{Build, Make};
+use ir_folds::decl::elaborate::supertraits;
+use ir_trees::ir::heads::{Head, PartHead, PredHead};
+use ir_trees::ir::kinds::{
     AliasTerm, Args, Binder, Clause, ClauseKind, ExistentialPredicate, GenericArg, Pred,
     PredicatePolarity, Preds, ProjectionPredicate, Region, TraitId, TraitPredicate, TraitRef, Ty,
     TyKind,
 };
-use candidate_ir::ir::stop::Stop;
-use candidate_ir::ir::trees::Trees;
+use ir_trees::ir::stop::Stop;
+use ir_trees::ir::trees::Trees;
 use std::alloc::{AllocError, Global};
 
 /// The bounds and the region of a `dyn` type.

@@ -1,18 +1,18 @@
 //! Kinds of goals.
 
 ghost use Rattle.std.specs.Prelude.{◌≡◌, List, [], ◌∷◌, length, true, false, IfOk, IfErr, OnOk, OnErr};
-ghost use Rattle.candidate_ir.specs.declared.ir.kinds.ParamEnv.{ParamEnv as EnvNumber};
-ghost use Rattle.candidate_ir.specs.Syntax.Binders.{escapes};
-ghost use Rattle.candidate_ir.specs.Declarations.Context.{Context, Grows};
-ghost use Rattle.candidate_ir.specs.declared.decl.contents.LangItem.TheVariants as item;
-ghost use Rattle.candidate_ir.specs.declared.ir.kinds.TyKind.TheVariants as type_kind;
-ghost use Rattle.candidate_ir.specs.Syntax.Flags.{mark};
-ghost use Rattle.candidate_ir.specs.declared.ir.heads.Flag.TheVariants as flag;
-ghost use Rattle.candidate_ir.specs.Instantiation.Owned.{AliasArgumentsFit};
-ghost use Rattle.candidate_ir.specs.Declarations.References.{reference_of};
-ghost use Rattle.candidate_ir.specs.Unification.Substitutions.{alone};
-ghost use Rattle.candidate_ir.specs.Syntax.Trees.{Tree, holds, is_param};
-ghost use Rattle.candidate_ir.specs.Syntax.Words.{IsArgs, IsClause, IsParamEnv, IsTy, args_forest, clause_tree, env_forest, kind_tree, ty_tree};
+ghost use Rattle.ir_trees.specs.declared.ir.kinds.ParamEnv.{ParamEnv as EnvNumber};
+ghost use Rattle.ir_trees.specs.Syntax.Binders.{escapes};
+ghost use Rattle.ir_trees.specs.Declarations.Context.{Context, Grows};
+ghost use Rattle.ir_trees.specs.declared.decl.contents.LangItem.TheVariants as item;
+ghost use Rattle.ir_trees.specs.declared.ir.kinds.TyKind.TheVariants as type_kind;
+ghost use Rattle.ir_trees.specs.Syntax.Flags.{mark};
+ghost use Rattle.ir_trees.specs.declared.ir.heads.Flag.TheVariants as flag;
+ghost use Rattle.ir_trees.specs.Instantiation.Owned.{AliasArgumentsFit};
+ghost use Rattle.ir_trees.specs.Declarations.References.{reference_of};
+ghost use Rattle.ir_trees.specs.Unification.Substitutions.{alone};
+ghost use Rattle.ir_trees.specs.Syntax.Trees.{Tree, holds, is_param};
+ghost use Rattle.ir_trees.specs.Syntax.Words.{IsArgs, IsClause, IsParamEnv, IsTy, args_forest, clause_tree, env_forest, kind_tree, ty_tree};
 ghost use Rattle.candidate_eval.specs.Interface.Accounts.{by_stop};
 ghost use Rattle.candidate_eval.specs.Derivations.Mentions.{IsBelow};
 ghost use Rattle.candidate_eval.specs.Derivations.Rules.{characterise, settle};
@@ -37,10 +37,10 @@ use candidate_eval::eval::context::{EvalCtxt, ProbeKind};
 use candidate_eval::eval::refusal::NoSolutionOrStop;
 use candidate_eval::eval::response::{Candidate, CandidateHeadUsages, CanonicalResponse};
 use candidate_eval::eval::source::CandidateSource;
-use candidate_ir::decl::Cx;
-use candidate_ir::decl::contents::ImplId;
-use candidate_ir::ir::kinds::{AliasTy, Clause, ParamEnv, TraitId, TraitRef, Ty};
-use candidate_ir::ir::stop::Stop;
+use ir_context::decl::Cx;
+use ir_trees::decl::contents::ImplId;
+use ir_trees::ir::kinds::{AliasTy, Clause, ParamEnv, TraitId, TraitRef, Ty};
+use ir_trees::ir::stop::Stop;
 use std::alloc::Global;
 
 /// A clause doesn't pass quick rejection.

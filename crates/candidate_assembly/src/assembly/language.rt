@@ -1,7 +1,7 @@
 //! The rules that the language has for some traits, by name.
 
 ghost use Rattle.std.specs.Prelude.{◌≡◌};
-ghost use Rattle.candidate_ir.specs.Validity.Faults.{all_items};
+ghost use Rattle.ir_trees.specs.Validity.Faults.{all_items};
 ghost use Rattle.candidate_eval.specs.Outcomes.ResponseTrees.{AreCandidates};
 ghost use Rattle.candidate_assembly.specs.Answers.Assembled.{language_rules, rule_among, rule_name, rule_of_item, rule_of_trait};
 ghost use Rattle.candidate_assembly.specs.Goals.Kinds.{HasKnownSelfType};
@@ -15,10 +15,10 @@ use crate::assembly::listing::push_considered;
 use candidate_eval::eval::context::EvalCtxt;
 use candidate_eval::eval::refusal::NoSolutionOrStop;
 use candidate_eval::eval::response::Candidate;
-use candidate_ir::decl::Cx;
-use candidate_ir::decl::contents::{LangItem, Sizedness};
-use candidate_ir::ir::kinds::{ClosureKind, ParamEnv, TraitId};
-use candidate_ir::ir::stop::Stop;
+use ir_context::decl::Cx;
+use ir_trees::decl::contents::{LangItem, Sizedness};
+use ir_trees::ir::kinds::{ClosureKind, ParamEnv, TraitId};
+use ir_trees::ir::stop::Stop;
 use std::alloc::Global;
 
 /// A rule of the language.

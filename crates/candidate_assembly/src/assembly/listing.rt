@@ -1,10 +1,10 @@
 //! Lists of candidates, by rules in their order.
 
 ghost use Rattle.std.specs.Prelude.{◌≡◌, false, length, IfErr, IfOk};
-ghost use Rattle.candidate_ir.specs.Unification.Impls.{relevant_impls};
-ghost use Rattle.candidate_ir.specs.Syntax.Trees.{holds, is_param};
-ghost use Rattle.candidate_ir.specs.Validity.WellFormed.{IsWellFormedTable};
-ghost use Rattle.candidate_ir.specs.Syntax.Words.{env_forest};
+ghost use Rattle.ir_trees.specs.Unification.Impls.{relevant_impls};
+ghost use Rattle.ir_trees.specs.Syntax.Trees.{holds, is_param};
+ghost use Rattle.ir_trees.specs.Validity.WellFormed.{IsWellFormedTable};
+ghost use Rattle.ir_trees.specs.Syntax.Words.{env_forest};
 ghost use Rattle.candidate_eval.specs.Interface.Accounts.{by_stop};
 ghost use Rattle.candidate_eval.specs.Outcomes.ResponseTrees.{AreCandidates};
 ghost use Rattle.candidate_eval.specs.Interface.Shown.{Keeps};
@@ -22,11 +22,11 @@ use candidate_eval::eval::certainty::Certainty;
 use candidate_eval::eval::context::EvalCtxt;
 use candidate_eval::eval::refusal::NoSolutionOrStop;
 use candidate_eval::eval::response::{Candidate, CandidateHeadUsages, CanonicalResponse};
-use candidate_ir::decl::contents::ImplId;
-use candidate_ir::decl::{Cx, UnifyCount};
-use candidate_ir::ir::kinds::ParamEnv;
-use candidate_ir::ir::stop::Stop;
-use candidate_ir::ir::trees::Trees;
+use ir_context::decl::{Cx, UnifyCount};
+use ir_trees::decl::contents::ImplId;
+use ir_trees::ir::kinds::ParamEnv;
+use ir_trees::ir::stop::Stop;
+use ir_trees::ir::trees::Trees;
 use std::alloc::Global;
 
 /// Adds the candidate, if there is one; a refusal adds nothing.

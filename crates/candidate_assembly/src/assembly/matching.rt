@@ -1,8 +1,8 @@
 //! What follows where a clause is matched.
 
 ghost use Rattle.std.specs.Prelude.{◌≡◌, [], ◌∷◌, false, IfErr, OnOk};
-ghost use Rattle.candidate_ir.specs.Syntax.Trees.{holds, is_param};
-ghost use Rattle.candidate_ir.specs.Syntax.Words.{IsClause, IsParamEnv, clause_tree, env_forest};
+ghost use Rattle.ir_trees.specs.Syntax.Trees.{holds, is_param};
+ghost use Rattle.ir_trees.specs.Syntax.Words.{IsClause, IsParamEnv, clause_tree, env_forest};
 ghost use Rattle.candidate_eval.specs.Interface.Accounts.{by_stop};
 ghost use Rattle.candidate_eval.specs.Derivations.Judging.{comes_to, start};
 ghost use Rattle.candidate_eval.specs.Derivations.Rules.{ask, characterise, settle};
@@ -23,8 +23,8 @@ use candidate_eval::eval::context::{EvalCtxt, ProbeKind};
 use candidate_eval::eval::refusal::NoSolutionOrStop;
 use candidate_eval::eval::response::{Candidate, CandidateHeadUsages, CanonicalResponse};
 use candidate_eval::eval::source::{BuiltinImplSource, CandidateSource};
-use candidate_ir::ir::kinds::{Clause, Goal, GoalSource, ParamEnv};
-use candidate_ir::ir::stop::Stop;
+use ir_trees::ir::kinds::{Clause, Goal, GoalSource, ParamEnv};
+use ir_trees::ir::stop::Stop;
 use std::alloc::Global;
 
 /// What is pending is evaluated, the clause characterised, and the candidate asked for, of the source and with at most the certainty that

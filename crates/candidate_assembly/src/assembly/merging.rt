@@ -1,8 +1,8 @@
 //! How a goal that isn't of a trait is answered, once it is known how the goal of its trait was proved.
 
 ghost use Rattle.std.specs.Prelude.{◌≡◌, List};
-ghost use Rattle.candidate_ir.specs.Syntax.Trees.{Tree};
-ghost use Rattle.candidate_ir.specs.Syntax.Words.{IsParamEnv, env_forest};
+ghost use Rattle.ir_trees.specs.Syntax.Trees.{Tree};
+ghost use Rattle.ir_trees.specs.Syntax.Words.{IsParamEnv, env_forest};
 ghost use Rattle.candidate_eval.specs.Outcomes.ResponseTrees.{AreCandidates, candidates_of};
 ghost use Rattle.candidate_eval.specs.Interface.Shown.{KeepsBut};
 ghost use Rattle.candidate_assembly.specs.Goals.Standing.{GoalIsValid};
@@ -24,7 +24,7 @@ use candidate_eval::eval::certainty::MaybeInfo;
 use candidate_eval::eval::context::EvalCtxt;
 use candidate_eval::eval::refusal::NoSolutionOrStop;
 use candidate_eval::eval::response::{Candidate, CanonicalResponse, try_merge_candidates};
-use candidate_ir::ir::kinds::ParamEnv;
+use ir_trees::ir::kinds::ParamEnv;
 use std::alloc::Global;
 
 /// How a goal of a trait is proved.

@@ -1,14 +1,14 @@
 //! Candidates by an object's own bounds: what the bounds of a `dyn` type say of it.
 
 ghost use Rattle.std.specs.Prelude.{◌≡◌, ◌++◌, All, false, map, true, IfErr, IfOk};
-ghost use Rattle.candidate_ir.specs.Declarations.Context.{Grows, world};
-ghost use Rattle.candidate_ir.specs.Declarations.References.{Takes};
-ghost use Rattle.candidate_ir.specs.Unification.Substitutions.{alone};
-ghost use Rattle.candidate_ir.specs.Syntax.Words.{ClauseFits, ClauseListFits, IsClause, IsParamEnv, IsPred, IsPreds, IsTy, PredListFits, clause_kind_tree, clause_tree, env_forest, pred_tree, preds_forest, ty_tree};
+ghost use Rattle.ir_trees.specs.Declarations.Context.{Grows, world};
+ghost use Rattle.ir_trees.specs.Declarations.References.{Takes};
+ghost use Rattle.ir_trees.specs.Unification.Substitutions.{alone};
+ghost use Rattle.ir_trees.specs.Syntax.Words.{ClauseFits, ClauseListFits, IsClause, IsParamEnv, IsPred, IsPreds, IsTy, PredListFits, clause_kind_tree, clause_tree, env_forest, pred_tree, preds_forest, ty_tree};
 ghost use Rattle.candidate_eval.specs.Interface.Unmade.{IsUnmade};
 ghost use Rattle.candidate_eval.specs.Dynamic.ObjectRequirements.{reference_clause};
-ghost use Rattle.candidate_ir.specs.declared.ir.heads.Head.TheVariants as H;
-ghost use Rattle.candidate_ir.specs.Syntax.Trees.{holds, is_param};
+ghost use Rattle.ir_trees.specs.declared.ir.heads.Head.TheVariants as H;
+ghost use Rattle.ir_trees.specs.Syntax.Trees.{holds, is_param};
 ghost use Rattle.candidate_eval.specs.Outcomes.ResponseTrees.{AreCandidates};
 ghost use Rattle.candidate_eval.specs.Interface.Shown.{view};
 ghost use Rattle.candidate_assembly.specs.Goals.Kinds.{IsAssumption, self_type};
@@ -32,15 +32,15 @@ use candidate_eval::eval::response::Candidate;
 use candidate_eval::eval::source::{BuiltinImplSource, CandidateSource};
 use candidate_eval::objects::object::AmbiguousOrStop;
 use candidate_eval::objects::object_candidate::predicates_for_object_candidate;
-use candidate_ir::decl::Cx;
-use candidate_ir::decl::contents::LangItem;
-use candidate_ir::decl::make::Make;
-use candidate_ir::ir::heads::Head;
-use candidate_ir::ir::kinds::{
+use ir_context::decl::Cx;
+use ir_context::decl::make::Make;
+use ir_trees::decl::contents::LangItem;
+use ir_trees::ir::heads::Head;
+use ir_trees::ir::kinds::{
     Binder, Clause, ClauseKind, GoalSource, ParamEnv, Pred, Preds, TraitId, TraitRef, Ty,
 };
-use candidate_ir::ir::stop::Stop;
-use candidate_ir::ir::trees::Trees;
+use ir_trees::ir::stop::Stop;
+use ir_trees::ir::trees::Trees;
 use std::alloc::{AllocError, Global};
 
 /// The reference of the trait that the clause speaks of, under the clause's binder. A clause that says what an associated type is speaks of

@@ -2,13 +2,13 @@
 
 ghost use Rattle.std.specs.Prelude.{◌≡◌, ◌∷◌, [], All, false, length, map, option_map, true, IfErr, IfOk};
 ghost use Rattle.std.specs.List.{flat_map};
-ghost use Rattle.candidate_ir.specs.Declarations.Context.{Grows};
-ghost use Rattle.candidate_ir.specs.Instantiation.Folding.{IsSubstStop};
-ghost use Rattle.candidate_ir.specs.Instantiation.Folds.{IsArg, IsOfKind, arg_tree};
-ghost use Rattle.candidate_ir.specs.Unification.Impls.{blanket_impls};
-ghost use Rattle.candidate_ir.specs.Syntax.Trees.{holds, is_alias, is_param};
-ghost use Rattle.candidate_ir.specs.Syntax.Words.{ClauseListFits, IsClause, IsParamEnv, IsTy, KindFits, clause_tree, env_forest, kind_tree, ty_tree};
-ghost use Rattle.candidate_ir.specs.declared.ir.kinds.TyKind.TheVariants as kinds;
+ghost use Rattle.ir_trees.specs.Declarations.Context.{Grows};
+ghost use Rattle.ir_trees.specs.Instantiation.Folding.{IsSubstStop};
+ghost use Rattle.ir_trees.specs.Instantiation.Folds.{IsArg, IsOfKind, arg_tree};
+ghost use Rattle.ir_trees.specs.Unification.Impls.{blanket_impls};
+ghost use Rattle.ir_trees.specs.Syntax.Trees.{holds, is_alias, is_param};
+ghost use Rattle.ir_trees.specs.Syntax.Words.{ClauseListFits, IsClause, IsParamEnv, IsTy, KindFits, clause_tree, env_forest, kind_tree, ty_tree};
+ghost use Rattle.ir_trees.specs.declared.ir.kinds.TyKind.TheVariants as kinds;
 ghost use Rattle.candidate_eval.specs.Interface.Accounts.{by_stop};
 ghost use Rattle.candidate_eval.specs.Outcomes.Certainties.{certainty_and};
 ghost use Rattle.candidate_eval.specs.Interface.Evaluators.{IsHiddenOpaque, alias_trees};
@@ -38,14 +38,14 @@ use candidate_eval::eval::mode::TypingMode;
 use candidate_eval::eval::refusal::NoSolutionOrStop;
 use candidate_eval::eval::response::{Candidate, CanonicalResponse};
 use candidate_eval::eval::source::CandidateSource;
-use candidate_ir::decl::Cx;
-use candidate_ir::decl::answering::{PureFolder, fold_answers};
-use candidate_ir::decl::contents::{AliasBoundKind, ImplId};
-use candidate_ir::decl::make::Make;
-use candidate_ir::ir::heads::{Flag, Marks};
-use candidate_ir::ir::kinds::{AliasTy, Clause, GenericArg, ParamEnv, TraitId, Ty, TyKind};
-use candidate_ir::ir::stop::Stop;
-use candidate_ir::ir::trees::Trees;
+use ir_context::decl::Cx;
+use ir_context::decl::make::Make;
+use ir_folds::decl::answering::{PureFolder, fold_answers};
+use ir_trees::decl::contents::{AliasBoundKind, ImplId};
+use ir_trees::ir::heads::{Flag, Marks};
+use ir_trees::ir::kinds::{AliasTy, Clause, GenericArg, ParamEnv, TraitId, Ty, TyKind};
+use ir_trees::ir::stop::Stop;
+use ir_trees::ir::trees::Trees;
 use std::alloc::Global;
 
 /// Which candidates are looked for.

@@ -6,7 +6,7 @@ ghost use Rattle.candidate_assembly.specs.Answers.Sources.{is_of};
 
 use candidate_eval::eval::response::Candidate;
 use candidate_eval::eval::source::{BuiltinImplSource, CandidateSource, ParamEnvSource};
-use candidate_ir::decl::contents::AliasBoundKind;
+use ir_trees::decl::contents::AliasBoundKind;
 
 /// Kinds of sources, by which it is said which candidates win.
 #[derive(Clone, Copy)]

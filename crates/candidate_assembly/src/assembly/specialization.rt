@@ -9,9 +9,9 @@ ghost use Rattle.std.specs.List.{list_any, remove};
 use candidate_eval::eval::context::EvalCtxt;
 use candidate_eval::eval::response::{Candidate, CanonicalResponse, has_only_region_constraints};
 use candidate_eval::eval::source::CandidateSource;
-use candidate_ir::decl::Cx;
-use candidate_ir::decl::contents::ImplId;
-use candidate_ir::decl::make::Make;
+use ir_context::decl::Cx;
+use ir_context::decl::make::Make;
+use ir_trees::decl::contents::ImplId;
 
 /// Whether an impl may drive out the ones that it specialises although it finds values of variables.
 #[derive(Clone, Copy, Debug, PartialEq, Eq)]

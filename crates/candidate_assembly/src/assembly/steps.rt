@@ -1,8 +1,8 @@
 //! Steps of rules, by the calls of an evaluator.
 
 ghost use Rattle.std.specs.Prelude.{◌≡◌, Err, List, map, true, IfErr, IfOk};
-ghost use Rattle.candidate_ir.specs.Syntax.Trees.{Tree};
-ghost use Rattle.candidate_ir.specs.Syntax.Words.{ClauseListFits, IsParamEnv, clause_tree, env_forest};
+ghost use Rattle.ir_trees.specs.Syntax.Trees.{Tree};
+ghost use Rattle.ir_trees.specs.Syntax.Words.{ClauseListFits, IsParamEnv, clause_tree, env_forest};
 ghost use Rattle.candidate_eval.specs.Interface.Accounts.{by_stop};
 ghost use Rattle.candidate_eval.specs.Interface.Evaluators.{with_goals_of};
 ghost use Rattle.candidate_eval.specs.Derivations.Judging.{Judged, asked};
@@ -19,7 +19,7 @@ use candidate_eval::eval::context::{EvalCtxt, ProbeKind};
 use candidate_eval::eval::refusal::NoSolutionOrStop;
 use candidate_eval::eval::response::{Candidate, CandidateHeadUsages, CanonicalResponse};
 use candidate_eval::eval::source::{BuiltinImplSource, CandidateSource};
-use candidate_ir::ir::kinds::{Clause, GoalSource, ParamEnv};
+use ir_trees::ir::kinds::{Clause, GoalSource, ParamEnv};
 use std::alloc::Global;
 
 /// The candidate of a source, by its response and by what was used for it; an error stays as it is.

@@ -1,11 +1,11 @@
 //! Impls that other crates may write: in coherence a goal that one of them may prove is too little known.
 
 ghost use Rattle.std.specs.Prelude.{◌≡◌, [], ◌∷◌, false, map, IfErr, IfOk, OnOk};
-ghost use Rattle.candidate_ir.specs.Hierarchy.Elaboration.{IsElaboration};
-ghost use Rattle.candidate_ir.specs.Declarations.References.{ArgumentsFit, reference_of};
-ghost use Rattle.candidate_ir.specs.Syntax.Trees.{holds, is_param};
-ghost use Rattle.candidate_ir.specs.Validity.WellFormed.{IsWellFormedTable};
-ghost use Rattle.candidate_ir.specs.Syntax.Words.{ClauseListFits, IsArgs, IsParamEnv, args_forest, clause_tree, env_forest};
+ghost use Rattle.ir_trees.specs.Hierarchy.Elaboration.{IsElaboration};
+ghost use Rattle.ir_trees.specs.Declarations.References.{ArgumentsFit, reference_of};
+ghost use Rattle.ir_trees.specs.Syntax.Trees.{holds, is_param};
+ghost use Rattle.ir_trees.specs.Validity.WellFormed.{IsWellFormedTable};
+ghost use Rattle.ir_trees.specs.Syntax.Words.{ClauseListFits, IsArgs, IsParamEnv, args_forest, clause_tree, env_forest};
 ghost use Rattle.candidate_eval.specs.Interface.Accounts.{by_stop, if_refused};
 ghost use Rattle.candidate_eval.specs.Interface.Unmade.{IsUnmade};
 ghost use Rattle.candidate_eval.specs.Derivations.Judging.{At, Over, Refused, Stopped, start, step};
@@ -30,12 +30,12 @@ use candidate_eval::eval::knowing::is_knowable;
 use candidate_eval::eval::refusal::NoSolutionOrStop;
 use candidate_eval::eval::response::Candidate;
 use candidate_eval::eval::source::CandidateSource;
-use candidate_ir::decl::elaborate::elaborate;
-use candidate_ir::decl::make::Build;
-use candidate_ir::ir::kinds::{
+use ir_context::decl::make::Build;
+use ir_folds::decl::elaborate::elaborate;
+use ir_trees::ir::kinds::{
     Clause, GoalSource, ParamEnv, PredicatePolarity, TraitPredicate, TraitRef,
 };
-use candidate_ir::ir::stop::Stop;
+use ir_trees::ir::stop::Stop;
 use std::alloc::Global;
 
 /// What it implies that the reference holds: the clause that says so, and then all else. No parameter stands in the reference.

@@ -1,9 +1,9 @@
 //! The rule of trait aliases: an alias holds where the where clauses of its trait do.
 
 ghost use Rattle.std.specs.Prelude.{◌≡◌, IfOk, IfErr};
-ghost use Rattle.candidate_ir.specs.Declarations.Context.{Grows};
-ghost use Rattle.candidate_ir.specs.Declarations.References.{ArgumentsFit};
-ghost use Rattle.candidate_ir.specs.Syntax.Words.{ClauseListFits, IsArgs};
+ghost use Rattle.ir_trees.specs.Declarations.Context.{Grows};
+ghost use Rattle.ir_trees.specs.Declarations.References.{ArgumentsFit};
+ghost use Rattle.ir_trees.specs.Syntax.Words.{ClauseListFits, IsArgs};
 ghost use Rattle.candidate_eval.specs.Interface.Unmade.{IsUnmade};
 ghost use Rattle.candidate_assembly.specs.Rules.BuiltinRules.{trait_alias_rule};
 ghost use Rattle.candidate_assembly.specs.Goals.TraitGoals.{trait_goal};
@@ -19,10 +19,10 @@ use candidate_eval::eval::context::EvalCtxt;
 use candidate_eval::eval::refusal::NoSolutionOrStop;
 use candidate_eval::eval::response::Candidate;
 use candidate_eval::eval::source::{BuiltinImplSource, CandidateSource};
-use candidate_ir::decl::make::Make;
-use candidate_ir::decl::subst::subst;
-use candidate_ir::ir::kinds::{Clause, GoalSource, ParamEnv, TraitPredicate, TraitRef};
-use candidate_ir::ir::stop::Stop;
+use ir_context::decl::make::Make;
+use ir_folds::decl::subst::subst;
+use ir_trees::ir::kinds::{Clause, GoalSource, ParamEnv, TraitPredicate, TraitRef};
+use ir_trees::ir::stop::Stop;
 use std::alloc::Global;
 
 /// The where clauses of the reference's trait, in order, with the reference's arguments in the place of parameters.

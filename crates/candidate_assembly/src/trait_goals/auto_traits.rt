@@ -1,8 +1,8 @@
 //! The rule of auto traits: a type meets one where its parts do, unless an impl says otherwise.
 
 ghost use Rattle.std.specs.Prelude.{◌≡◌, false, IfOk, IfErr};
-ghost use Rattle.candidate_ir.specs.Declarations.References.{ArgumentsFit, reference_of};
-ghost use Rattle.candidate_ir.specs.Syntax.Words.{IsArgs, IsClause, clause_tree};
+ghost use Rattle.ir_trees.specs.Declarations.References.{ArgumentsFit, reference_of};
+ghost use Rattle.ir_trees.specs.Syntax.Words.{IsArgs, IsClause, clause_tree};
 ghost use Rattle.candidate_eval.specs.Builtins.Callable.{is_unknown};
 ghost use Rattle.candidate_assembly.specs.Rules.BuiltinRules.{auto_barred, auto_refused, auto_rule, bounds_name, has_barring_impl, is_of_trait, may_have_impls, self_of};
 ghost use Rattle.candidate_assembly.specs.Goals.TraitGoals.{trait_goal};
@@ -19,13 +19,13 @@ use candidate_eval::eval::refusal::NoSolutionOrStop;
 use candidate_eval::eval::response::Candidate;
 use candidate_eval::eval::source::{BuiltinImplSource, CandidateSource};
 use candidate_eval::structural::Column;
-use candidate_ir::decl::make::Make;
-use candidate_ir::decl::{Cx, UnifyCount};
-use candidate_ir::ir::heads::Head;
-use candidate_ir::ir::kinds::{
+use ir_context::decl::make::Make;
+use ir_context::decl::{Cx, UnifyCount};
+use ir_trees::ir::heads::Head;
+use ir_trees::ir::kinds::{
     AliasId, AliasKind, Clause, ParamEnv, TraitId, TraitPredicate, TraitRef,
 };
-use candidate_ir::ir::stop::Stop;
+use ir_trees::ir::stop::Stop;
 use std::alloc::Global;
 
 /// Whether the clause speaks of the trait, be it that it holds or that it doesn't.

@@ -2,12 +2,12 @@
 
 ghost use Rattle.std.specs.Prelude.{◌≡◌, All, false, true, length, map, None, Some, IfErr, IfOk, IfSome, MatchOption, OnOk, option_map};
 ghost use Rattle.std.specs.List.{filter, list_any};
-ghost use Rattle.candidate_ir.specs.Declarations.Context.{Grows};
-ghost use Rattle.candidate_ir.specs.Hierarchy.Elaboration.{number_listed};
-ghost use Rattle.candidate_ir.specs.Unification.Substitutions.{alone};
-ghost use Rattle.candidate_ir.specs.Hierarchy.Supers.{after_first};
-ghost use Rattle.candidate_ir.specs.Syntax.Trees.{join};
-ghost use Rattle.candidate_ir.specs.Syntax.Words.{IsArgs, IsClause, IsParamEnv, IsPred, IsTy, IsVars, args_forest, clause_tree, env_forest, pred_tree, ty_tree};
+ghost use Rattle.ir_trees.specs.Declarations.Context.{Grows};
+ghost use Rattle.ir_trees.specs.Hierarchy.Elaboration.{number_listed};
+ghost use Rattle.ir_trees.specs.Unification.Substitutions.{alone};
+ghost use Rattle.ir_trees.specs.Hierarchy.Supers.{after_first};
+ghost use Rattle.ir_trees.specs.Syntax.Trees.{join};
+ghost use Rattle.ir_trees.specs.Syntax.Words.{IsArgs, IsClause, IsParamEnv, IsPred, IsTy, IsVars, args_forest, clause_tree, env_forest, pred_tree, ty_tree};
 ghost use Rattle.candidate_eval.specs.Interface.Accounts.{by_stop, if_refused};
 ghost use Rattle.candidate_eval.specs.Interface.Evaluators.{HasTrees};
 ghost use Rattle.candidate_eval.specs.Interface.Unmade.{IsUnmade};
@@ -24,14 +24,14 @@ use crate::trait_goals::auto_traits::is_of_trait;
 use candidate_eval::eval::binders::{enter_binder, instantiate_binder_with_infer};
 use candidate_eval::eval::context::{EvalCtxt, ProbeKind};
 use candidate_eval::eval::refusal::NoSolutionOrStop;
-use candidate_ir::decl::Cx;
-use candidate_ir::decl::make::{Build, Make};
-use candidate_ir::ir::kinds::{
+use ir_context::decl::Cx;
+use ir_context::decl::make::{Build, Make};
+use ir_trees::ir::kinds::{
     Args, AssocId, Binder, Clause, ClauseKind, ExistentialPredicate, GenericArg, ParamEnv, Pred,
     TraitId, TraitRef, Ty,
 };
-use candidate_ir::ir::stop::Stop;
-use candidate_ir::ir::trees::Trees;
+use ir_trees::ir::stop::Stop;
+use ir_trees::ir::trees::Trees;
 use std::alloc::Global;
 
 /// How a bound of the target is met.

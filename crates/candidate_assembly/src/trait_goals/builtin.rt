@@ -1,17 +1,17 @@
 //! Side conditions of the rules that the language has for some traits.
 
 ghost use Rattle.std.specs.Prelude.{◌≡◌};
-ghost use Rattle.candidate_ir.specs.Declarations.References.{ArgumentsFit};
-ghost use Rattle.candidate_ir.specs.Syntax.Words.{IsArgs, args_forest};
+ghost use Rattle.ir_trees.specs.Declarations.References.{ArgumentsFit};
+ghost use Rattle.ir_trees.specs.Syntax.Words.{IsArgs, args_forest};
 ghost use Rattle.candidate_eval.specs.Dynamic.ObjectRequirements.{first_tree};
 ghost use Rattle.candidate_assembly.specs.Rules.BuiltinRules.{fn_ptr_holds, is_fn_ptr, is_known_rigid, is_tuple};
 ghost use Rattle.candidate_assembly.specs.Goals.TraitGoals.{is_positive};
 
 use candidate_eval::eval::clauses::self_ty;
-use candidate_ir::decl::Cx;
-use candidate_ir::ir::heads::{Builtin, Head};
-use candidate_ir::ir::kinds::{PredicatePolarity, TraitPredicate};
-use candidate_ir::ir::trees::Trees;
+use ir_context::decl::Cx;
+use ir_trees::ir::heads::{Builtin, Head};
+use ir_trees::ir::kinds::{PredicatePolarity, TraitPredicate};
+use ir_trees::ir::trees::Trees;
 
 pub(crate) fn is_positive(polarity: PredicatePolarity) -> bool
     ensures { result ≡ is_positive polarity }

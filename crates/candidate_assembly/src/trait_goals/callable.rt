@@ -1,11 +1,11 @@
 //! The rule for what can be called: a goal of `Fn`, `FnMut` or `FnOnce`.
 
 ghost use Rattle.std.specs.Prelude.{◌≡◌, [], None, Some, false, true, IfErr, IfOk, OnOk};
-ghost use Rattle.candidate_ir.specs.Declarations.Context.{world};
-ghost use Rattle.candidate_ir.specs.Declarations.References.{ArgumentsFit};
-ghost use Rattle.candidate_ir.specs.Syntax.Trees.{is_param, tree_holds};
-ghost use Rattle.candidate_ir.specs.Syntax.Words.{IsArgs, IsParamEnv, IsTy, env_forest, ty_tree};
-ghost use Rattle.candidate_ir.specs.Declarations.Worlds.{TraitSort, parameters};
+ghost use Rattle.ir_trees.specs.Declarations.Context.{world};
+ghost use Rattle.ir_trees.specs.Declarations.References.{ArgumentsFit};
+ghost use Rattle.ir_trees.specs.Syntax.Trees.{is_param, tree_holds};
+ghost use Rattle.ir_trees.specs.Syntax.Words.{IsArgs, IsParamEnv, IsTy, env_forest, ty_tree};
+ghost use Rattle.ir_trees.specs.Declarations.Worlds.{TraitSort, parameters};
 ghost use Rattle.candidate_eval.specs.Interface.Accounts.{by_stop, if_refused};
 ghost use Rattle.candidate_eval.specs.Builtins.Callable.{CalledWith, IsCallable, callable_of, is_unknown};
 ghost use Rattle.candidate_eval.specs.Derivations.Characterization.{binder_kinds};
@@ -33,15 +33,15 @@ use candidate_eval::eval::refusal::NoSolutionOrStop;
 use candidate_eval::eval::response::Candidate;
 use candidate_eval::eval::source::{BuiltinImplSource, CandidateSource};
 use candidate_eval::structural::callable::extract_tupled_inputs_and_output_from_callable;
-use candidate_ir::decl::contents::LangItem;
-use candidate_ir::decl::make::{Build, Make};
-use candidate_ir::decl::open::replace_bound_vars;
-use candidate_ir::ir::kinds::{
+use ir_context::decl::make::{Build, Make};
+use ir_folds::decl::open::replace_bound_vars;
+use ir_trees::decl::contents::LangItem;
+use ir_trees::ir::kinds::{
     Binder, ClosureKind, GenericArg, GoalSource, ParamEnv, TraitId, TraitPredicate, TraitRef, Ty,
 };
-use candidate_ir::ir::stop::Stop;
-use candidate_ir::ir::trees::Trees;
-use candidate_ir::ir::unify::RightSide;
+use ir_trees::ir::stop::Stop;
+use ir_trees::ir::trees::Trees;
+use ir_trees::ir::unify::RightSide;
 use std::alloc::Global;
 
 /// The inputs and the output of what is called, with fresh variables in the place of those of its binder. It is called in a probe: after a stop

@@ -9,7 +9,7 @@ ghost use Rattle.candidate_assembly.specs.Goals.TraitRules.{trait_rules};
 ghost use Rattle.candidate_assembly.specs.Answers.Shown.{Computes};
 ghost use Rattle.candidate_assembly.specs.Laws.Given.{IsCounted};
 ghost use Rattle.candidate_eval.specs.Interface.Shown.{view};
-ghost use Rattle.candidate_ir.specs.Validity.WellFormed.{IsWellFormedTable};
+ghost use Rattle.ir_trees.specs.Validity.WellFormed.{IsWellFormedTable};
 ghost use Rattle.candidate_assembly.specs.Goals.KindShown.{IsGoal, trait_kind};
 
 use crate::assembly::candidates::assemble_and_evaluate_candidates;
@@ -19,9 +19,9 @@ use crate::trait_goals::preference::{CandidatePreferenceMode, merge_trait_candid
 use candidate_eval::eval::context::EvalCtxt;
 use candidate_eval::eval::refusal::NoSolutionOrStop;
 use candidate_eval::eval::response::CanonicalResponse;
-use candidate_ir::decl::Cx;
-use candidate_ir::decl::make::Make;
-use candidate_ir::ir::kinds::{ParamEnv, TraitPredicate};
+use ir_context::decl::Cx;
+use ir_context::decl::make::Make;
+use ir_trees::ir::kinds::{ParamEnv, TraitPredicate};
 use std::alloc::Global;
 
 /// Nothing is wrong with what is declared, and its lists are no longer than a machine counts.

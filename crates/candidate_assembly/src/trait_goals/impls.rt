@@ -1,13 +1,13 @@
 //! The rule of an impl: a goal of a trait holds by an impl of it.
 
 ghost use Rattle.std.specs.Prelude.{◌≡◌, ◌∷◌, false, true, None, Some, Option, map, IfErr, IfOk, IfSome, MatchOption, OnOk};
-ghost use Rattle.candidate_ir.specs.Declarations.Declaring.{impl_at};
-ghost use Rattle.candidate_ir.specs.Instantiation.Folding.{lacks_argument};
-ghost use Rattle.candidate_ir.specs.Instantiation.Owned.{ClausesAreOwned};
-ghost use Rattle.candidate_ir.specs.Syntax.Trees.{holds, is_param};
-ghost use Rattle.candidate_ir.specs.Validity.WellFormed.{ImplIsGiven};
-ghost use Rattle.candidate_ir.specs.Syntax.Words.{IsArgs, IsParamEnv, args_forest, env_forest};
-ghost use Rattle.candidate_ir.specs.Declarations.Worlds.{kinds_of};
+ghost use Rattle.ir_trees.specs.Declarations.Declaring.{impl_at};
+ghost use Rattle.ir_trees.specs.Instantiation.Folding.{lacks_argument};
+ghost use Rattle.ir_trees.specs.Instantiation.Owned.{ClausesAreOwned};
+ghost use Rattle.ir_trees.specs.Syntax.Trees.{holds, is_param};
+ghost use Rattle.ir_trees.specs.Validity.WellFormed.{ImplIsGiven};
+ghost use Rattle.ir_trees.specs.Syntax.Words.{IsArgs, IsParamEnv, args_forest, env_forest};
+ghost use Rattle.ir_trees.specs.Declarations.Worlds.{kinds_of};
 ghost use Rattle.candidate_eval.specs.Interface.Accounts.{by_stop, if_refused};
 ghost use Rattle.candidate_eval.specs.Derivations.ImplRules as rules;
 ghost use Rattle.candidate_eval.specs.Derivations.Judging.{At, Over, Refused, run, start};
@@ -33,14 +33,14 @@ use candidate_eval::eval::mode::TypingMode;
 use candidate_eval::eval::refusal::NoSolutionOrStop;
 use candidate_eval::eval::response::{Candidate, CanonicalResponse};
 use candidate_eval::eval::source::CandidateSource;
-use candidate_ir::decl::Cx;
-use candidate_ir::decl::contents::{ImplId, ImplPolarity};
-use candidate_ir::ir::kinds::{
+use ir_context::decl::Cx;
+use ir_trees::decl::contents::{ImplId, ImplPolarity};
+use ir_trees::ir::kinds::{
     Args, Clause, Goal, GoalSource, ParamEnv, PredicatePolarity, TraitId, TraitPredicate,
 };
-use candidate_ir::ir::stop::Stop;
-use candidate_ir::ir::trees::Trees;
-use candidate_ir::ir::unify::RightSide;
+use ir_trees::ir::stop::Stop;
+use ir_trees::ir::trees::Trees;
+use ir_trees::ir::unify::RightSide;
 use std::alloc::Global;
 
 /// What an impl declares, without what its associated types are.

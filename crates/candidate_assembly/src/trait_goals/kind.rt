@@ -17,12 +17,12 @@ use candidate_eval::eval::clauses::self_ty;
 use candidate_eval::eval::context::EvalCtxt;
 use candidate_eval::eval::refusal::NoSolutionOrStop;
 use candidate_eval::eval::response::{Candidate, CanonicalResponse};
-use candidate_ir::decl::Cx;
-use candidate_ir::decl::contents::ImplId;
-use candidate_ir::ir::heads::Flag;
-use candidate_ir::ir::kinds::{AliasTy, Clause, ParamEnv, TraitPredicate, TraitRef, Ty};
-use candidate_ir::ir::stop::Stop;
-use candidate_ir::ir::trees::Trees;
+use ir_context::decl::Cx;
+use ir_trees::decl::contents::ImplId;
+use ir_trees::ir::heads::Flag;
+use ir_trees::ir::kinds::{AliasTy, Clause, ParamEnv, TraitPredicate, TraitRef, Ty};
+use ir_trees::ir::stop::Stop;
+use ir_trees::ir::trees::Trees;
 use std::alloc::Global;
 
 impl<E: EvalCtxt> GoalKind<E> for TraitPredicate {

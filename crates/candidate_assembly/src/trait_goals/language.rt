@@ -22,11 +22,11 @@ use candidate_eval::eval::refusal::NoSolutionOrStop;
 use candidate_eval::eval::response::Candidate;
 use candidate_eval::eval::source::{BuiltinImplSource, CandidateSource};
 use candidate_eval::structural::Column;
-use candidate_ir::decl::contents::Sizedness;
-use candidate_ir::decl::make::Make;
-use candidate_ir::ir::heads::Flag;
-use candidate_ir::ir::kinds::{ParamEnv, TraitPredicate};
-use candidate_ir::ir::trees::Trees;
+use ir_context::decl::make::Make;
+use ir_trees::decl::contents::Sizedness;
+use ir_trees::ir::heads::Flag;
+use ir_trees::ir::kinds::{ParamEnv, TraitPredicate};
+use ir_trees::ir::trees::Trees;
 use std::alloc::Global;
 
 /// The predicate holds an error.

@@ -1,11 +1,11 @@
 //! Clauses that goals of traits are matched with.
 
 ghost use Rattle.std.specs.Prelude.{◌≡◌, true, false, IfOk, IfErr, OnOk, OnErr};
-ghost use Rattle.candidate_ir.specs.declared.ir.heads.ClauseHead.TheVariants as Cl;
-ghost use Rattle.candidate_ir.specs.declared.ir.heads.Head.TheVariants as H;
-ghost use Rattle.candidate_ir.specs.declared.ir.heads.PartHead.TheVariants as P;
-ghost use Rattle.candidate_ir.specs.declared.ir.kinds.ParamEnv.{ParamEnv as EnvNumber};
-ghost use Rattle.candidate_ir.specs.Syntax.Words.{IsArgs, IsClause, clause_tree};
+ghost use Rattle.ir_trees.specs.declared.ir.heads.ClauseHead.TheVariants as Cl;
+ghost use Rattle.ir_trees.specs.declared.ir.heads.Head.TheVariants as H;
+ghost use Rattle.ir_trees.specs.declared.ir.heads.PartHead.TheVariants as P;
+ghost use Rattle.ir_trees.specs.declared.ir.kinds.ParamEnv.{ParamEnv as EnvNumber};
+ghost use Rattle.ir_trees.specs.Syntax.Words.{IsArgs, IsClause, clause_tree};
 ghost use Rattle.candidate_eval.specs.Interface.Accounts.{by_stop, if_refused};
 ghost use Rattle.candidate_eval.specs.Derivations.Judging.{At, Over, Refused};
 ghost use Rattle.candidate_eval.specs.Interface.Shown.{Keeps, KeepsBut, StopsSomehow, view};
@@ -24,11 +24,11 @@ use candidate_eval::eval::binders::instantiate_clause_with_infer;
 use candidate_eval::eval::clauses::predicate_in;
 use candidate_eval::eval::context::EvalCtxt;
 use candidate_eval::eval::refusal::NoSolutionOrStop;
-use candidate_ir::decl::Cx;
-use candidate_ir::decl::contents::LangItem;
-use candidate_ir::ir::kinds::{Clause, ParamEnv, PredicatePolarity, TraitId, TraitPredicate};
-use candidate_ir::ir::trees::Trees;
-use candidate_ir::ir::unify::RightSide;
+use ir_context::decl::Cx;
+use ir_trees::decl::contents::LangItem;
+use ir_trees::ir::kinds::{Clause, ParamEnv, PredicatePolarity, TraitId, TraitPredicate};
+use ir_trees::ir::trees::Trees;
+use ir_trees::ir::unify::RightSide;
 use std::alloc::Global;
 
 /// Whether what a clause says of a trait may serve the goal: it says it of the goal's trait, with the goal's polarity. That a type is

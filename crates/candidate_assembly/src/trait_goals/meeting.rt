@@ -1,22 +1,22 @@
 //! Clauses that a trait without parameters holds of a type.
 
 ghost use Rattle.std.specs.Prelude.{◌≡◌, [], Some, false, IfErr, IfOk, IfSome};
-ghost use Rattle.candidate_ir.specs.Declarations.Context.{Grows, world};
-ghost use Rattle.candidate_ir.specs.Declarations.Declaring.{takes_a_type};
-ghost use Rattle.candidate_ir.specs.Syntax.Words.{IsClause, IsTy, clause_tree, ty_tree};
-ghost use Rattle.candidate_ir.specs.Declarations.Worlds.{TraitSort, parameters};
+ghost use Rattle.ir_trees.specs.Declarations.Context.{Grows, world};
+ghost use Rattle.ir_trees.specs.Declarations.Declaring.{takes_a_type};
+ghost use Rattle.ir_trees.specs.Syntax.Words.{IsClause, IsTy, clause_tree, ty_tree};
+ghost use Rattle.ir_trees.specs.Declarations.Worlds.{TraitSort, parameters};
 ghost use Rattle.candidate_eval.specs.Interface.Unmade.{IsUnmade};
 ghost use Rattle.candidate_assembly.specs.Rules.BuiltinRules.{meets};
 ghost use Rattle.candidate_assembly.specs.Goals.TraitGoals.{item_trait};
 
-use candidate_ir::decl::Cx;
-use candidate_ir::decl::contents::LangItem;
-use candidate_ir::decl::make::{Build, Make};
-use candidate_ir::ir::kinds::{
+use ir_context::decl::Cx;
+use ir_context::decl::make::{Build, Make};
+use ir_trees::decl::contents::LangItem;
+use ir_trees::ir::kinds::{
     Binder, Clause, ClauseKind, GenericArg, PredicatePolarity, TraitId, TraitPredicate, TraitRef,
     Ty,
 };
-use candidate_ir::ir::stop::Stop;
+use ir_trees::ir::stop::Stop;
 
 /// The trait that is the lang item has no parameters.
 pub fn recall_item_has_no_parameters(cx: &Cx, item: LangItem)

@@ -4,7 +4,7 @@ ghost use Rattle.std.specs.Prelude.{◌≡◌};
 ghost use Rattle.candidate_assembly.specs.Rules.BuiltinRules.{copy_rule, no_drop_needs, no_drop_rule};
 ghost use Rattle.candidate_assembly.specs.Goals.TraitGoals.{item_trait, trait_goal};
 ghost use Rattle.candidate_assembly.specs.Answers.Shown.{Considers};
-ghost use Rattle.candidate_ir.specs.declared.decl.contents.LangItem.TheVariants as L;
+ghost use Rattle.ir_trees.specs.declared.decl.contents.LangItem.TheVariants as L;
 ghost use Rattle.candidate_assembly.specs.Goals.KindShown.{IsGoal, trait_kind};
 
 use crate::assembly::steps::{consider_unconditional, consider_with_nested};
@@ -18,11 +18,11 @@ use candidate_eval::eval::refusal::NoSolutionOrStop;
 use candidate_eval::eval::response::Candidate;
 use candidate_eval::eval::source::{BuiltinImplSource, CandidateSource};
 use candidate_eval::structural::Column;
-use candidate_ir::decl::Cx;
-use candidate_ir::decl::contents::LangItem;
-use candidate_ir::decl::make::Make;
-use candidate_ir::ir::heads::{Builtin, Head};
-use candidate_ir::ir::kinds::{GoalSource, ParamEnv, TraitPredicate};
+use ir_context::decl::Cx;
+use ir_context::decl::make::Make;
+use ir_trees::decl::contents::LangItem;
+use ir_trees::ir::heads::{Builtin, Head};
+use ir_trees::ir::kinds::{GoalSource, ParamEnv, TraitPredicate};
 use std::alloc::Global;
 
 /// What a type needs so that nothing is run where a value of it is dropped.

@@ -1,11 +1,11 @@
 //! Rules over the structural tables: the parts of a type meet the goal's trait.
 
 ghost use Rattle.std.specs.Prelude.{◌≡◌, [], ◌∷◌, ◌++◌, All, false, true, map, IfOk, IfErr, IfSome, OnOk};
-ghost use Rattle.candidate_ir.specs.Declarations.Context.{Grows};
-ghost use Rattle.candidate_ir.specs.Declarations.References.{ArgumentsFit};
-ghost use Rattle.candidate_ir.specs.Syntax.Trees.{is_param, tree_holds};
-ghost use Rattle.candidate_ir.specs.Validity.WellFormed.{TypesFit};
-ghost use Rattle.candidate_ir.specs.Syntax.Words.{ClauseListFits, IsArgs, IsClause, IsTy, args_forest, clause_tree, ty_tree};
+ghost use Rattle.ir_trees.specs.Declarations.Context.{Grows};
+ghost use Rattle.ir_trees.specs.Declarations.References.{ArgumentsFit};
+ghost use Rattle.ir_trees.specs.Syntax.Trees.{is_param, tree_holds};
+ghost use Rattle.ir_trees.specs.Validity.WellFormed.{TypesFit};
+ghost use Rattle.ir_trees.specs.Syntax.Words.{ClauseListFits, IsArgs, IsClause, IsTy, args_forest, clause_tree, ty_tree};
 ghost use Rattle.candidate_eval.specs.Interface.Accounts.{by_stop};
 ghost use Rattle.candidate_eval.specs.Builtins.Asked.{IsUnder, variables};
 ghost use Rattle.candidate_eval.specs.Derivations.Characterization.{binder_kinds};
@@ -29,15 +29,15 @@ use candidate_eval::eval::response::Candidate;
 use candidate_eval::eval::source::CandidateSource;
 use candidate_eval::structural::tables::constituents;
 use candidate_eval::structural::{Column, Under};
-use candidate_ir::decl::Cx;
-use candidate_ir::decl::make::{Build, Make};
-use candidate_ir::decl::open::{replace_bound_vars, variable_kinds};
-use candidate_ir::ir::kinds::{
+use ir_context::decl::Cx;
+use ir_context::decl::make::{Build, Make};
+use ir_folds::decl::open::{replace_bound_vars, variable_kinds};
+use ir_trees::ir::kinds::{
     Args, Binder, Clause, ClauseKind, GenericArg, GoalSource, ParamEnv, TraitPredicate, TraitRef,
     Ty, VarKind,
 };
-use candidate_ir::ir::stop::Stop;
-use candidate_ir::ir::trees::Trees;
+use ir_trees::ir::stop::Stop;
+use ir_trees::ir::trees::Trees;
 use std::alloc::Global;
 
 /// The predicate with this self type. `Stop::Memory` comes where a growth was refused, `Stop::NodesFull` where the list was not made.

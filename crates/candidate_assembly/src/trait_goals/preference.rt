@@ -2,8 +2,8 @@
 
 ghost use Rattle.std.specs.Prelude.{◌≡◌, ◌&&◌, ◌||◌, List, None, option_map};
 ghost use Rattle.std.specs.List.{list_any};
-ghost use Rattle.candidate_ir.specs.declared.decl.contents.LangItem.TheVariants as L;
-ghost use Rattle.candidate_ir.specs.Syntax.Trees.{Tree};
+ghost use Rattle.ir_trees.specs.declared.decl.contents.LangItem.TheVariants as L;
+ghost use Rattle.ir_trees.specs.Syntax.Trees.{Tree};
 ghost use Rattle.candidate_eval.specs.Outcomes.ResponseTrees.{AreCandidates, candidates_of};
 ghost use Rattle.candidate_eval.specs.Interface.Shown.{Keeps, view};
 ghost use Rattle.candidate_assembly.specs.Answers.Assembled.{HasOneTrivial};
@@ -27,10 +27,10 @@ use candidate_eval::eval::response::{
     Candidate, CanonicalResponse, MergeCandidateInfo, has_only_region_constraints,
     try_merge_candidates,
 };
-use candidate_ir::decl::Cx;
-use candidate_ir::decl::contents::LangItem;
-use candidate_ir::decl::make::Make;
-use candidate_ir::ir::kinds::TraitId;
+use ir_context::decl::Cx;
+use ir_context::decl::make::Make;
+use ir_trees::decl::contents::LangItem;
+use ir_trees::ir::kinds::TraitId;
 
 /// Whether bounds of an alias win over clauses of the environment.
 #[derive(Clone, Copy, Debug, PartialEq, Eq)]

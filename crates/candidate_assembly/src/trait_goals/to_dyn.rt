@@ -1,12 +1,12 @@
 //! Any type to `dyn`: it meets the bounds, is sized and outlives the region.
 
 ghost use Rattle.std.specs.Prelude.{◌≡◌, [], Some, false, map, IfErr, IfOk};
-ghost use Rattle.candidate_ir.specs.Declarations.Context.{Grows, world};
-ghost use Rattle.candidate_ir.specs.Syntax.Trees.{is_param, tree_holds};
-ghost use Rattle.candidate_ir.specs.Syntax.Words.{IsClause, IsPreds, IsRegion, IsTy, clause_tree, env_forest, preds_forest, region_tree, ty_tree};
-ghost use Rattle.candidate_ir.specs.Declarations.Worlds.{TraitSort, parameters};
-ghost use Rattle.candidate_ir.specs.declared.ir.heads.ClauseHead.TheVariants as Cl;
-ghost use Rattle.candidate_ir.specs.declared.ir.heads.Head.TheVariants as H;
+ghost use Rattle.ir_trees.specs.Declarations.Context.{Grows, world};
+ghost use Rattle.ir_trees.specs.Syntax.Trees.{is_param, tree_holds};
+ghost use Rattle.ir_trees.specs.Syntax.Words.{IsClause, IsPreds, IsRegion, IsTy, clause_tree, env_forest, preds_forest, region_tree, ty_tree};
+ghost use Rattle.ir_trees.specs.Declarations.Worlds.{TraitSort, parameters};
+ghost use Rattle.ir_trees.specs.declared.ir.heads.ClauseHead.TheVariants as Cl;
+ghost use Rattle.ir_trees.specs.declared.ir.heads.Head.TheVariants as H;
 ghost use Rattle.candidate_eval.specs.Interface.Unmade.{IsUnmade};
 ghost use Rattle.candidate_eval.specs.Dynamic.Required.{each_of};
 ghost use Rattle.candidate_eval.specs.Outcomes.ResponseTrees.{AreCandidates};
@@ -31,13 +31,13 @@ use candidate_eval::eval::clauses::self_ty;
 use candidate_eval::eval::context::EvalCtxt;
 use candidate_eval::eval::refusal::NoSolutionOrStop;
 use candidate_eval::eval::response::Candidate;
-use candidate_ir::decl::contents::LangItem;
-use candidate_ir::decl::make::{Build, Make};
-use candidate_ir::ir::kinds::{
+use ir_context::decl::make::{Build, Make};
+use ir_trees::decl::contents::LangItem;
+use ir_trees::ir::kinds::{
     Binder, Clause, ClauseKind, GoalSource, ParamEnv, Preds, Region, TraitId, TraitPredicate, Ty,
 };
-use candidate_ir::ir::stop::Stop;
-use candidate_ir::ir::trees::Trees;
+use ir_trees::ir::stop::Stop;
+use ir_trees::ir::trees::Trees;
 use std::alloc::Global;
 
 /// What the bounds say of the type, in their order, as requirements. `Stop::Memory` comes where a growth was refused, `Stop::NodesFull` where

@@ -1,18 +1,18 @@
 //! Unsizing: how a value of one type becomes one of another whose size is known at run time alone.
 
 ghost use Rattle.std.specs.Prelude.{◌≡◌, [], ◌∷◌, Some, false, length, true, map, IfErr, IfOk, IfSome};
-ghost use Rattle.candidate_ir.specs.Declarations.Context.{Grows, world};
-ghost use Rattle.candidate_ir.specs.Declarations.Declaring.{adt_at};
-ghost use Rattle.candidate_ir.specs.Hierarchy.Elaboration.{number_listed};
-ghost use Rattle.candidate_ir.specs.Instantiation.Folding.{lacks_argument};
-ghost use Rattle.candidate_ir.specs.Declarations.Lookups.{maybe};
-ghost use Rattle.candidate_ir.specs.Syntax.Trees.{TypeKind, is_param, none, tree_holds};
-ghost use Rattle.candidate_ir.specs.Validity.WellFormed.{TypesFit};
-ghost use Rattle.candidate_ir.specs.Syntax.Words.{ClauseListFits, IsArgs, IsClause, IsParamEnv, IsTy, args_forest, clause_tree, env_forest, ty_tree};
-ghost use Rattle.candidate_ir.specs.Declarations.Worlds.{AdtSort, TraitSort, kinds_of, parameters};
-ghost use Rattle.candidate_ir.specs.declared.ir.heads.Builtin.TheVariants as B;
-ghost use Rattle.candidate_ir.specs.declared.ir.heads.Head.TheVariants as H;
-ghost use Rattle.candidate_ir.specs.declared.ir.kinds.PredicatePolarity.TheVariants as Pol;
+ghost use Rattle.ir_trees.specs.Declarations.Context.{Grows, world};
+ghost use Rattle.ir_trees.specs.Declarations.Declaring.{adt_at};
+ghost use Rattle.ir_trees.specs.Hierarchy.Elaboration.{number_listed};
+ghost use Rattle.ir_trees.specs.Instantiation.Folding.{lacks_argument};
+ghost use Rattle.ir_trees.specs.Declarations.Lookups.{maybe};
+ghost use Rattle.ir_trees.specs.Syntax.Trees.{TypeKind, is_param, none, tree_holds};
+ghost use Rattle.ir_trees.specs.Validity.WellFormed.{TypesFit};
+ghost use Rattle.ir_trees.specs.Syntax.Words.{ClauseListFits, IsArgs, IsClause, IsParamEnv, IsTy, args_forest, clause_tree, env_forest, ty_tree};
+ghost use Rattle.ir_trees.specs.Declarations.Worlds.{AdtSort, TraitSort, kinds_of, parameters};
+ghost use Rattle.ir_trees.specs.declared.ir.heads.Builtin.TheVariants as B;
+ghost use Rattle.ir_trees.specs.declared.ir.heads.Head.TheVariants as H;
+ghost use Rattle.ir_trees.specs.declared.ir.kinds.PredicatePolarity.TheVariants as Pol;
 ghost use Rattle.candidate_eval.specs.Interface.Accounts.{by_stop};
 ghost use Rattle.candidate_eval.specs.Interface.Evaluators.{HasTree};
 ghost use Rattle.candidate_eval.specs.Interface.Unmade.{IsUnmade};
@@ -34,15 +34,15 @@ use candidate_eval::eval::context::{EvalCtxt, ProbeKind};
 use candidate_eval::eval::refusal::NoSolutionOrStop;
 use candidate_eval::eval::response::Candidate;
 use candidate_eval::eval::source::{BuiltinImplSource, CandidateSource};
-use candidate_ir::decl::Cx;
-use candidate_ir::decl::make::{Build, Make};
-use candidate_ir::decl::subst::subst;
-use candidate_ir::ir::kinds::{
+use ir_context::decl::Cx;
+use ir_context::decl::make::{Build, Make};
+use ir_folds::decl::subst::subst;
+use ir_trees::ir::kinds::{
     AdtId, Args, Binder, Clause, ClauseKind, GenericArg, GoalSource, ParamEnv, PredicatePolarity,
     TraitId, TraitPredicate, TraitRef, Ty, TyKind,
 };
-use candidate_ir::ir::stop::Stop;
-use candidate_ir::ir::trees::Trees;
+use ir_trees::ir::stop::Stop;
+use ir_trees::ir::trees::Trees;
 use std::alloc::{AllocError, Global};
 
 /// The candidate where two types are the same and the clauses hold. It is called in a probe.

@@ -1,15 +1,15 @@
 //! Which row a type unsizes by, and the candidates of that.
 
 ghost use Rattle.std.specs.Prelude.{◌≡◌, [], ◌∷◌, Some, false, true, IfErr};
-ghost use Rattle.candidate_ir.specs.declared.decl.contents.LangItem.TheVariants as item;
-ghost use Rattle.candidate_ir.specs.declared.ir.heads.Head.TheVariants as H;
-ghost use Rattle.candidate_ir.specs.Declarations.Lookups.{adt_shape, definition};
-ghost use Rattle.candidate_ir.specs.Declarations.References.{ArgumentsFit};
-ghost use Rattle.candidate_ir.specs.Hierarchy.Supers.{after_first};
-ghost use Rattle.candidate_ir.specs.Syntax.Trees.{TypeKind, is_param, tree_holds};
-ghost use Rattle.candidate_ir.specs.Syntax.Words.{IsArgs, IsTy, args_forest, ty_tree};
-ghost use Rattle.candidate_ir.specs.Declarations.Worlds.{AdtSort, TraitSort, kinds_of, parameters};
-ghost use Rattle.candidate_ir.specs.Declarations.Context.{world};
+ghost use Rattle.ir_trees.specs.declared.decl.contents.LangItem.TheVariants as item;
+ghost use Rattle.ir_trees.specs.declared.ir.heads.Head.TheVariants as H;
+ghost use Rattle.ir_trees.specs.Declarations.Lookups.{adt_shape, definition};
+ghost use Rattle.ir_trees.specs.Declarations.References.{ArgumentsFit};
+ghost use Rattle.ir_trees.specs.Hierarchy.Supers.{after_first};
+ghost use Rattle.ir_trees.specs.Syntax.Trees.{TypeKind, is_param, tree_holds};
+ghost use Rattle.ir_trees.specs.Syntax.Words.{IsArgs, IsTy, args_forest, ty_tree};
+ghost use Rattle.ir_trees.specs.Declarations.Worlds.{AdtSort, TraitSort, kinds_of, parameters};
+ghost use Rattle.ir_trees.specs.Declarations.Context.{world};
 ghost use Rattle.candidate_eval.specs.Dynamic.ObjectRequirements.{first_tree};
 ghost use Rattle.candidate_eval.specs.Outcomes.ResponseTrees.{AreCandidates};
 ghost use Rattle.candidate_eval.specs.Interface.Shown.{Keeps, view};
@@ -38,14 +38,12 @@ use candidate_eval::eval::clauses::self_ty;
 use candidate_eval::eval::context::{EvalCtxt, ProbeKind};
 use candidate_eval::eval::refusal::NoSolutionOrStop;
 use candidate_eval::eval::response::Candidate;
-use candidate_ir::decl::Cx;
-use candidate_ir::decl::definition::AdtShape;
-use candidate_ir::ir::heads::{Builtin, Head, Variable, VariableSort};
-use candidate_ir::ir::kinds::{
-    AdtId, Args, GenericArg, ParamEnv, TraitId, TraitPredicate, Ty, TyKind,
-};
-use candidate_ir::ir::stop::Stop;
-use candidate_ir::ir::trees::Trees;
+use ir_context::decl::Cx;
+use ir_trees::decl::definition::AdtShape;
+use ir_trees::ir::heads::{Builtin, Head, Variable, VariableSort};
+use ir_trees::ir::kinds::{AdtId, Args, GenericArg, ParamEnv, TraitId, TraitPredicate, Ty, TyKind};
+use ir_trees::ir::stop::Stop;
+use ir_trees::ir::trees::Trees;
 use std::alloc::Global;
 
 /// How a type unsizes to another.

@@ -1,10 +1,10 @@
 //! `dyn` to `dyn`: each bound of the target is met by the source's own bounds and by one of its principal's supertraits.
 
 ghost use Rattle.std.specs.Prelude.{◌≡◌, ℕ, All, false, true, length, map, None, Some, IfErr, IfOk, IfSome, option_map};
-ghost use Rattle.candidate_ir.specs.declared.ir.heads.ClauseHead.TheVariants as Cl;
-ghost use Rattle.candidate_ir.specs.declared.ir.heads.Head.TheVariants as H;
-ghost use Rattle.candidate_ir.specs.Declarations.Context.{Grows};
-ghost use Rattle.candidate_ir.specs.Syntax.Words.{IsClause, IsParamEnv, IsPred, IsRegion, IsTy, clause_tree, env_forest, pred_tree, region_tree, ty_tree};
+ghost use Rattle.ir_trees.specs.declared.ir.heads.ClauseHead.TheVariants as Cl;
+ghost use Rattle.ir_trees.specs.declared.ir.heads.Head.TheVariants as H;
+ghost use Rattle.ir_trees.specs.Declarations.Context.{Grows};
+ghost use Rattle.ir_trees.specs.Syntax.Words.{IsClause, IsParamEnv, IsPred, IsRegion, IsTy, clause_tree, env_forest, pred_tree, region_tree, ty_tree};
 ghost use Rattle.candidate_eval.specs.Interface.Accounts.{by_stop};
 ghost use Rattle.candidate_eval.specs.Interface.Unmade.{IsUnmade};
 ghost use Rattle.candidate_eval.specs.Derivations.Mentions.{IsBelow};
@@ -34,14 +34,14 @@ use candidate_eval::eval::context::{EvalCtxt, ProbeKind};
 use candidate_eval::eval::refusal::NoSolutionOrStop;
 use candidate_eval::eval::response::Candidate;
 use candidate_eval::eval::source::{BuiltinImplSource, CandidateSource};
-use candidate_ir::decl::Cx;
-use candidate_ir::decl::make::{Build, Make};
-use candidate_ir::ir::kinds::{
+use ir_context::decl::Cx;
+use ir_context::decl::make::{Build, Make};
+use ir_trees::ir::kinds::{
     Binder, Clause, ClauseKind, ExistentialPredicate, GoalSource, ParamEnv, Pred, Region,
     TraitPredicate, Ty,
 };
-use candidate_ir::ir::stop::Stop;
-use candidate_ir::ir::trees::Trees;
+use ir_trees::ir::stop::Stop;
+use ir_trees::ir::trees::Trees;
 use std::alloc::Global;
 
 /// What an upcast is made of.

@@ -2,47 +2,47 @@
 use Rattle.std.proofs.Common.{◌≡◌, ◌↔◌, IsTrue, ◌+◌, ◌≤◌, ℕ, List, [], ◌∷◌, Bool, true, false, not, Option, Some, None, inl, inr, refl, sym, ◌∙◌, ap, subst, arith}
 use Rattle.std.specs.Prelude.{length, drop, ◌&&◌, ◌||◌, if◌then◌else◌}
 use Rattle.std.specs.List.{list_all}
-use Rattle.candidate_ir.specs.declared.decl.definition.FnFlags.{FnFlags}
-use Rattle.candidate_ir.specs.declared.ir.heads.Builtin.TheVariants as B
-use Rattle.candidate_ir.specs.declared.ir.heads.Head.{Head}
-use Rattle.candidate_ir.specs.declared.ir.heads.Head.TheVariants as H
-use Rattle.candidate_ir.specs.declared.ir.heads.PartHead.TheVariants as P
-use Rattle.candidate_ir.specs.declared.ir.kinds.Args.{Args}
-use Rattle.candidate_ir.specs.declared.ir.kinds.Binder.{Binder}
-use Rattle.candidate_ir.specs.declared.ir.kinds.ClosureArgs.{ClosureArgs}
-use Rattle.candidate_ir.specs.declared.ir.kinds.ClosureId.{ClosureId}
-use Rattle.candidate_ir.specs.declared.ir.kinds.ClosureKind.{ClosureKind}
-use Rattle.candidate_ir.specs.declared.ir.kinds.ClosureSig.{ClosureSig}
-use Rattle.candidate_ir.specs.declared.ir.kinds.FnId.{FnId}
-use Rattle.candidate_ir.specs.declared.ir.kinds.FnSig.{FnSig}
-use Rattle.candidate_ir.specs.declared.ir.kinds.GenericArg.{GenericArg}
-use Rattle.candidate_ir.specs.declared.ir.kinds.GenericArg.TheVariants as G
-use Rattle.candidate_ir.specs.declared.ir.kinds.InferTy.TheVariants as V
-use Rattle.candidate_ir.specs.declared.ir.kinds.Pattern.TheVariants as Pat
-use Rattle.candidate_ir.specs.declared.ir.kinds.Sig.{Sig}
-use Rattle.candidate_ir.specs.declared.ir.kinds.Ty.{Ty}
-use Rattle.candidate_ir.specs.declared.ir.kinds.TyKind.{TyKind}
-use Rattle.candidate_ir.specs.declared.ir.kinds.TyKind.TheVariants as K
-use Rattle.candidate_ir.specs.declared.ir.stop.Stop.{Stop}
-use Rattle.candidate_ir.specs.Syntax.Trees.{Kind, TypeKind, ConstantKind, RegionKind, BinderKind, ArgumentsKind, SignatureKind, Forest, none, tree, Tree, is_list_kind, is_type_kind, height, heights, holds, tree_holds, row, join, kind_of}
-use Rattle.candidate_ir.specs.Syntax.Nodes.{tree_at, kind_at}
-use Rattle.candidate_ir.specs.Declarations.Context.{Context, Grows, world}
-use Rattle.candidate_ir.specs.Hierarchy.Elaboration.{first_children}
-use Rattle.candidate_ir.specs.Instantiation.Folding.{IsSubstStop, no_memory, few_numbers, high_tree, argument, lacks_argument, substituted_tree}
-use Rattle.candidate_ir.specs.Syntax.Kinds.{is_fn_trait_compatible}
-use Rattle.candidate_ir.specs.Declarations.Lookups.{definition, fn_flags, fn_sig, is_const_closure}
-use Rattle.candidate_ir.specs.Declarations.Parameters.{is_type_arg}
-use Rattle.candidate_ir.specs.Declarations.References.{Takes}
-use Rattle.candidate_ir.specs.Instantiation.Signatures.{SignatureHas}
-use Rattle.candidate_ir.specs.Unification.Substitutions.{alone}
-use Rattle.candidate_ir.specs.Validity.WellFormed.{SignatureFits}
-use Rattle.candidate_ir.specs.Syntax.Words.{IsTy, IsArgs, SigFits, KindFits, ListFits, IsMkStop, list_forest, ty_tree, kind_tree, sig_tree, sig_kind_tree, args_forest}
-use Rattle.candidate_ir.specs.Declarations.Worlds.{FunctionSort, all_of, kinds_of, parameters}
-use Rattle.candidate_ir.proofs.Instantiation.Folding.{or-right}
-use Rattle.candidate_ir.proofs.Syntax.Lists.{below_kind}
-use Rattle.candidate_ir.specs.Syntax.Trees.{there}
-use Rattle.candidate_ir.proofs.Growth.Kept.{number-kept, args-kept}
-use Rattle.candidate_ir.proofs.Syntax.Rows.{join-none, kind-of, row-single, row-list}
+use Rattle.ir_trees.specs.declared.decl.definition.FnFlags.{FnFlags}
+use Rattle.ir_trees.specs.declared.ir.heads.Builtin.TheVariants as B
+use Rattle.ir_trees.specs.declared.ir.heads.Head.{Head}
+use Rattle.ir_trees.specs.declared.ir.heads.Head.TheVariants as H
+use Rattle.ir_trees.specs.declared.ir.heads.PartHead.TheVariants as P
+use Rattle.ir_trees.specs.declared.ir.kinds.Args.{Args}
+use Rattle.ir_trees.specs.declared.ir.kinds.Binder.{Binder}
+use Rattle.ir_trees.specs.declared.ir.kinds.ClosureArgs.{ClosureArgs}
+use Rattle.ir_trees.specs.declared.ir.kinds.ClosureId.{ClosureId}
+use Rattle.ir_trees.specs.declared.ir.kinds.ClosureKind.{ClosureKind}
+use Rattle.ir_trees.specs.declared.ir.kinds.ClosureSig.{ClosureSig}
+use Rattle.ir_trees.specs.declared.ir.kinds.FnId.{FnId}
+use Rattle.ir_trees.specs.declared.ir.kinds.FnSig.{FnSig}
+use Rattle.ir_trees.specs.declared.ir.kinds.GenericArg.{GenericArg}
+use Rattle.ir_trees.specs.declared.ir.kinds.GenericArg.TheVariants as G
+use Rattle.ir_trees.specs.declared.ir.kinds.InferTy.TheVariants as V
+use Rattle.ir_trees.specs.declared.ir.kinds.Pattern.TheVariants as Pat
+use Rattle.ir_trees.specs.declared.ir.kinds.Sig.{Sig}
+use Rattle.ir_trees.specs.declared.ir.kinds.Ty.{Ty}
+use Rattle.ir_trees.specs.declared.ir.kinds.TyKind.{TyKind}
+use Rattle.ir_trees.specs.declared.ir.kinds.TyKind.TheVariants as K
+use Rattle.ir_trees.specs.declared.ir.stop.Stop.{Stop}
+use Rattle.ir_trees.specs.Syntax.Trees.{Kind, TypeKind, ConstantKind, RegionKind, BinderKind, ArgumentsKind, SignatureKind, Forest, none, tree, Tree, is_list_kind, is_type_kind, height, heights, holds, tree_holds, row, join, kind_of}
+use Rattle.ir_trees.specs.Syntax.Nodes.{tree_at, kind_at}
+use Rattle.ir_trees.specs.Declarations.Context.{Context, Grows, world}
+use Rattle.ir_trees.specs.Hierarchy.Elaboration.{first_children}
+use Rattle.ir_trees.specs.Instantiation.Folding.{IsSubstStop, no_memory, few_numbers, high_tree, argument, lacks_argument, substituted_tree}
+use Rattle.ir_trees.specs.Syntax.Kinds.{is_fn_trait_compatible}
+use Rattle.ir_trees.specs.Declarations.Lookups.{definition, fn_flags, fn_sig, is_const_closure}
+use Rattle.ir_trees.specs.Declarations.Parameters.{is_type_arg}
+use Rattle.ir_trees.specs.Declarations.References.{Takes}
+use Rattle.ir_context.specs.Instantiation.Signatures.{SignatureHas}
+use Rattle.ir_trees.specs.Unification.Substitutions.{alone}
+use Rattle.ir_trees.specs.Validity.WellFormed.{SignatureFits}
+use Rattle.ir_trees.specs.Syntax.Words.{IsTy, IsArgs, SigFits, KindFits, ListFits, IsMkStop, list_forest, ty_tree, kind_tree, sig_tree, sig_kind_tree, args_forest}
+use Rattle.ir_trees.specs.Declarations.Worlds.{FunctionSort, all_of, kinds_of, parameters}
+use Rattle.ir_trees.proofs.Instantiation.Folding.{or-right}
+use Rattle.ir_trees.proofs.Syntax.Lists.{below_kind}
+use Rattle.ir_trees.specs.Syntax.Trees.{there}
+use Rattle.ir_trees.proofs.Growth.Kept.{number-kept, args-kept}
+use Rattle.ir_trees.proofs.Syntax.Rows.{join-none, kind-of, row-single, row-list}
 use Rattle.candidate_eval.specs.declared.structural.callable.CallableId.TheVariants as I
 use Rattle.candidate_eval.specs.declared.structural.callable.Called.{Called}
 use Rattle.candidate_eval.specs.Builtins.Asked.{kind_known}

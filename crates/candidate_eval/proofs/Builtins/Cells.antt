@@ -1,35 +1,35 @@
 -- The cells of the table, over the trees of kinds.
 use Rattle.std.proofs.Common.{◌≡◌, ◌↔◌, IsTrue, not, ℕ, List, [], ◌∷◌, ◌++◌, Bool, true, false, Some, refl, sym, ◌∙◌, ap, subst}
 use Rattle.std.specs.Prelude.{if◌then◌else◌}
-use Rattle.candidate_ir.specs.declared.ir.heads.Head.TheVariants as H
-use Rattle.candidate_ir.specs.declared.ir.kinds.TyKind.{TyKind}
-use Rattle.candidate_ir.specs.declared.ir.kinds.TyKind.TheVariants as K
-use Rattle.candidate_ir.specs.declared.ir.kinds.Pattern.{Pattern}
-use Rattle.candidate_ir.specs.declared.ir.kinds.Pattern.TheVariants as Pat
-use Rattle.candidate_ir.specs.declared.ir.kinds.Ty.{Ty}
-use Rattle.candidate_ir.specs.declared.ir.kinds.ClosureId.{ClosureId}
-use Rattle.candidate_ir.specs.declared.ir.kinds.ClosureArgs.{ClosureArgs}
-use Rattle.candidate_ir.specs.declared.ir.kinds.InferTy.TheVariants as I
-use Rattle.candidate_ir.specs.declared.ir.kinds.AliasKind.{AliasKind}
-use Rattle.candidate_ir.specs.declared.ir.kinds.AliasKind.TheVariants as AK
-use Rattle.candidate_ir.specs.declared.ir.kinds.AliasTy.{AliasTy}
-use Rattle.candidate_ir.specs.declared.ir.kinds.AdtId.{AdtId}
-use Rattle.candidate_ir.specs.declared.ir.kinds.Args.{Args}
-use Rattle.candidate_ir.specs.declared.decl.contents.Sizedness.TheVariants as S
-use Rattle.candidate_ir.specs.Syntax.Trees.{Kind, TypeKind, ConstantKind, RegionKind, BinderKind, SignatureKind, ArgumentsKind, Forest, none, tree, Tree, kind_of, is_type_kind, is_list_kind, row, join}
-use Rattle.candidate_ir.specs.Syntax.Nodes.{tree_at, kind_at}
-use Rattle.candidate_ir.specs.Declarations.Context.{Context, Grows, world}
-use Rattle.candidate_ir.specs.declared.ir.stop.Stop.{Stop}
-use Rattle.candidate_ir.specs.Hierarchy.Elaboration.{first_children}
-use Rattle.candidate_ir.specs.Declarations.Lookups.{adt_flags, definition}
-use Rattle.candidate_ir.specs.Declarations.References.{Takes, IsWellFormed}
-use Rattle.candidate_ir.specs.Syntax.Words.{IsTy, KindFits, IsArgs, ty_tree, kind_tree, args_forest}
-use Rattle.candidate_ir.specs.Declarations.Worlds.{AdtSort, OpaqueSort, Fits, alias_kinds, child_kinds, parameters, kinds_of}
-use Rattle.candidate_ir.proofs.Syntax.Lists.{below_kind}
-use Rattle.candidate_ir.specs.Syntax.Trees.{there}
-use Rattle.candidate_ir.proofs.Growth.Kept.{number-kept}
-use Rattle.candidate_ir.proofs.Kinding.References.{fit-at}
-use Rattle.candidate_ir.proofs.Syntax.Rows.{join-none, kind-of, row-single, row-list}
+use Rattle.ir_trees.specs.declared.ir.heads.Head.TheVariants as H
+use Rattle.ir_trees.specs.declared.ir.kinds.TyKind.{TyKind}
+use Rattle.ir_trees.specs.declared.ir.kinds.TyKind.TheVariants as K
+use Rattle.ir_trees.specs.declared.ir.kinds.Pattern.{Pattern}
+use Rattle.ir_trees.specs.declared.ir.kinds.Pattern.TheVariants as Pat
+use Rattle.ir_trees.specs.declared.ir.kinds.Ty.{Ty}
+use Rattle.ir_trees.specs.declared.ir.kinds.ClosureId.{ClosureId}
+use Rattle.ir_trees.specs.declared.ir.kinds.ClosureArgs.{ClosureArgs}
+use Rattle.ir_trees.specs.declared.ir.kinds.InferTy.TheVariants as I
+use Rattle.ir_trees.specs.declared.ir.kinds.AliasKind.{AliasKind}
+use Rattle.ir_trees.specs.declared.ir.kinds.AliasKind.TheVariants as AK
+use Rattle.ir_trees.specs.declared.ir.kinds.AliasTy.{AliasTy}
+use Rattle.ir_trees.specs.declared.ir.kinds.AdtId.{AdtId}
+use Rattle.ir_trees.specs.declared.ir.kinds.Args.{Args}
+use Rattle.ir_trees.specs.declared.decl.contents.Sizedness.TheVariants as S
+use Rattle.ir_trees.specs.Syntax.Trees.{Kind, TypeKind, ConstantKind, RegionKind, BinderKind, SignatureKind, ArgumentsKind, Forest, none, tree, Tree, kind_of, is_type_kind, is_list_kind, row, join}
+use Rattle.ir_trees.specs.Syntax.Nodes.{tree_at, kind_at}
+use Rattle.ir_trees.specs.Declarations.Context.{Context, Grows, world}
+use Rattle.ir_trees.specs.declared.ir.stop.Stop.{Stop}
+use Rattle.ir_trees.specs.Hierarchy.Elaboration.{first_children}
+use Rattle.ir_trees.specs.Declarations.Lookups.{adt_flags, definition}
+use Rattle.ir_trees.specs.Declarations.References.{Takes, IsWellFormed}
+use Rattle.ir_trees.specs.Syntax.Words.{IsTy, KindFits, IsArgs, ty_tree, kind_tree, args_forest}
+use Rattle.ir_trees.specs.Declarations.Worlds.{AdtSort, OpaqueSort, Fits, alias_kinds, child_kinds, parameters, kinds_of}
+use Rattle.ir_trees.proofs.Syntax.Lists.{below_kind}
+use Rattle.ir_trees.specs.Syntax.Trees.{there}
+use Rattle.ir_trees.proofs.Growth.Kept.{number-kept}
+use Rattle.ir_trees.proofs.Kinding.References.{fit-at}
+use Rattle.ir_trees.proofs.Syntax.Rows.{join-none, kind-of, row-single, row-list}
 use Rattle.candidate_eval.specs.declared.structural.asked.Asked.{Asked}
 use Rattle.candidate_eval.specs.declared.structural.asked.Asked.TheVariants as A
 use Rattle.candidate_eval.specs.declared.structural.Under.{Under}

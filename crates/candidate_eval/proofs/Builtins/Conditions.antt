@@ -5,39 +5,39 @@ use Rattle.candidate_eval.specs.declared.eval.refusal.NoSolutionOrStop.{NoSoluti
 use Rattle.candidate_eval.specs.declared.eval.refusal.NoSolutionOrStop.TheVariants as N
 use Rattle.std.proofs.lemmas.List.{map_push, map_more, take_all, append-nil}
 use Rattle.std.proofs.lemmas.Option.{slice_get-get_or, slice_get-map}
-use Rattle.candidate_ir.specs.Validity.WellFormed.{TypesFit}
+use Rattle.ir_trees.specs.Validity.WellFormed.{TypesFit}
 use Rattle.candidate_eval.specs.Builtins.Tables.{Cell, Excluded, Refused, Asks, row_of, IsTypesStop}
 use Rattle.candidate_eval.specs.declared.structural.asked.Asked.{Asked}
 use Rattle.candidate_eval.specs.Builtins.Asked as made
 use Rattle.candidate_eval.specs.Builtins.Asked.{asked_cell, asked_types}
 use Rattle.candidate_eval.proofs.Builtins.Cells.{refused_cell, not-refused}
 use Rattle.candidate_eval.proofs.Builtins.Types.{ty_at}
-use Rattle.candidate_ir.specs.declared.ir.kinds.Args.{Args}
-use Rattle.candidate_ir.specs.declared.ir.kinds.GenericArg.TheVariants as G
-use Rattle.candidate_ir.specs.declared.ir.kinds.TraitId.{TraitId}
-use Rattle.candidate_ir.specs.declared.ir.kinds.TraitRef.{TraitRef}
-use Rattle.candidate_ir.specs.declared.ir.kinds.Ty.{Ty}
-use Rattle.candidate_ir.specs.declared.ir.stop.Stop.{Stop}
-use Rattle.candidate_ir.specs.declared.ir.stop.Stop.TheVariants.{Memory}
-use Rattle.candidate_ir.specs.Declarations.Context.{Context, Grows}
-use Rattle.candidate_ir.specs.Instantiation.Folding.{IsSubstStop, few_numbers, high_tree}
-use Rattle.candidate_ir.specs.Declarations.References.{reference_of}
-use Rattle.candidate_ir.specs.Unification.Substitutions.{alone}
-use Rattle.candidate_ir.specs.Syntax.Trees.{TypeKind, Forest, none, Tree, heights}
-use Rattle.candidate_ir.specs.Syntax.Words.{IsTy, IsArgs, IsMkStop, kind_tree, ty_tree, args_forest, list_forest}
-use Rattle.candidate_ir.specs.Declarations.Worlds.{Reference}
-use Rattle.candidate_ir.proofs.Growth.Kept.{args-kept, ty-kept, grows-refl, grows-trans}
-use Rattle.candidate_ir.proofs.Syntax.Rows.{row-single}
+use Rattle.ir_trees.specs.declared.ir.kinds.Args.{Args}
+use Rattle.ir_trees.specs.declared.ir.kinds.GenericArg.TheVariants as G
+use Rattle.ir_trees.specs.declared.ir.kinds.TraitId.{TraitId}
+use Rattle.ir_trees.specs.declared.ir.kinds.TraitRef.{TraitRef}
+use Rattle.ir_trees.specs.declared.ir.kinds.Ty.{Ty}
+use Rattle.ir_trees.specs.declared.ir.stop.Stop.{Stop}
+use Rattle.ir_trees.specs.declared.ir.stop.Stop.TheVariants.{Memory}
+use Rattle.ir_trees.specs.Declarations.Context.{Context, Grows}
+use Rattle.ir_trees.specs.Instantiation.Folding.{IsSubstStop, few_numbers, high_tree}
+use Rattle.ir_trees.specs.Declarations.References.{reference_of}
+use Rattle.ir_trees.specs.Unification.Substitutions.{alone}
+use Rattle.ir_trees.specs.Syntax.Trees.{TypeKind, Forest, none, Tree, heights}
+use Rattle.ir_trees.specs.Syntax.Words.{IsTy, IsArgs, IsMkStop, kind_tree, ty_tree, args_forest, list_forest}
+use Rattle.ir_trees.specs.Declarations.Worlds.{Reference}
+use Rattle.ir_trees.proofs.Growth.Kept.{args-kept, ty-kept, grows-refl, grows-trans}
+use Rattle.ir_trees.proofs.Syntax.Rows.{row-single}
 use Rattle.candidate_eval.specs.Builtins.Destruct.{cell_meets, appended, destruct_conditions, lang, meets, each_meets, own_destructor, own_conditions, kind_destructor, drop_by, own_drop_of, is_refused, own_references, all_references, references_of, AreReferences, IsConditionsStop}
 use Rattle.candidate_eval.specs.declared.structural.destruct.OwnDrop.{OwnDrop}
 use Rattle.candidate_eval.specs.declared.structural.destruct.OwnDrop.TheVariants as O
-use Rattle.candidate_ir.specs.declared.decl.contents.Destructor.{Destructor}
-use Rattle.candidate_ir.specs.declared.decl.contents.Destructor.TheVariants as D
-use Rattle.candidate_ir.specs.declared.decl.contents.LangItem.TheVariants as L
-use Rattle.candidate_ir.specs.declared.ir.kinds.TyKind.{TyKind}
-use Rattle.candidate_ir.specs.declared.ir.kinds.TyKind.TheVariants as K
-use Rattle.candidate_ir.specs.declared.ir.kinds.Pattern.TheVariants as Pat
-use Rattle.candidate_ir.specs.Syntax.Kinds.{ty_head}
+use Rattle.ir_trees.specs.declared.decl.contents.Destructor.{Destructor}
+use Rattle.ir_trees.specs.declared.decl.contents.Destructor.TheVariants as D
+use Rattle.ir_trees.specs.declared.decl.contents.LangItem.TheVariants as L
+use Rattle.ir_trees.specs.declared.ir.kinds.TyKind.{TyKind}
+use Rattle.ir_trees.specs.declared.ir.kinds.TyKind.TheVariants as K
+use Rattle.ir_trees.specs.declared.ir.kinds.Pattern.TheVariants as Pat
+use Rattle.ir_trees.specs.Syntax.Kinds.{ty_head}
 
 references-kept : (old new : Context) (rs : List TraitRef) → Grows old new → AreReferences old.trees rs → AreReferences new.trees rs × (references_of new.trees rs ≡ references_of old.trees rs)
 references-kept old new [] g a = (tt, refl)

@@ -5,48 +5,48 @@ use Rattle.std.specs.List.{list_any}
 use Rattle.std.specs.Option.{unwrap_or}
 use Rattle.std.proofs.lemmas.List.Elements.{All-cons, All-head, All-nil, All-tail, All-weaker}
 use Rattle.std.proofs.lemmas.Option.{slice_get-map}
-use Rattle.candidate_ir.specs.declared.decl.contents.Sizedness.{Sizedness}
-use Rattle.candidate_ir.specs.declared.decl.contents.Sizedness.TheVariants as S
-use Rattle.candidate_ir.specs.declared.decl.definition.AssocKind.{AssocKind}
-use Rattle.candidate_ir.specs.declared.decl.definition.AssocKind.TheVariants as A
-use Rattle.candidate_ir.specs.declared.decl.definition.DefinitionKind.{DefinitionKind}
-use Rattle.candidate_ir.specs.declared.decl.definition.DefinitionKind.TheVariants as D
-use Rattle.candidate_ir.specs.declared.ir.heads.Builtin.{Builtin}
-use Rattle.candidate_ir.specs.declared.ir.heads.Builtin.TheVariants as B
-use Rattle.candidate_ir.specs.declared.ir.heads.ConstHead.{ConstHead}
-use Rattle.candidate_ir.specs.declared.ir.heads.ConstHead.TheVariants as C
-use Rattle.candidate_ir.specs.declared.ir.heads.Head.{Head}
-use Rattle.candidate_ir.specs.declared.ir.heads.Head.TheVariants as H
-use Rattle.candidate_ir.specs.declared.ir.heads.Variable.{Variable}
-use Rattle.candidate_ir.specs.declared.ir.heads.VariableSort.{VariableSort}
-use Rattle.candidate_ir.specs.declared.ir.heads.VariableSort.TheVariants as V
-use Rattle.candidate_ir.specs.declared.ir.kinds.AliasId.{AliasId}
-use Rattle.candidate_ir.specs.declared.ir.kinds.AliasKind.{AliasKind}
-use Rattle.candidate_ir.specs.declared.ir.kinds.AliasKind.TheVariants as AK
-use Rattle.candidate_ir.specs.declared.ir.kinds.BoundVar.{BoundVar}
-use Rattle.candidate_ir.specs.declared.ir.kinds.RegionKind.TheVariants as R
-use Rattle.candidate_ir.specs.declared.ir.kinds.Ty.{Ty}
-use Rattle.candidate_ir.specs.declared.ir.kinds.VarKind.{VarKind}
-use Rattle.candidate_ir.specs.Declarations.Contents.{AdtContents}
-use Rattle.candidate_ir.specs.Declarations.Context.{Context, assoc_sort, definition_of, parameter_kind, sort_of, world}
-use Rattle.candidate_ir.specs.Declarations.Declaration.{Declaration}
-use Rattle.candidate_ir.specs.Declarations.Declaring.{adt_at, adt_place, place_of}
-use Rattle.candidate_ir.specs.Instantiation.Folding.{argument, fold, put, shift_tree, substituted_tree}
-use Rattle.candidate_ir.specs.Instantiation.Folds.{node}
-use Rattle.candidate_ir.specs.Validity.Held.{adt_held, definitions_held, held_type, held_types, impls_held, option_held}
-use Rattle.candidate_ir.specs.Declarations.Lookups.{adt_flags, constraint, definition, hidden_type, maybe}
-use Rattle.candidate_ir.specs.Validity.Misplaced.{has_self, kinds_of_declared, kinds_of_owner, with_self}
-use Rattle.candidate_ir.specs.Instantiation.Owned.{is_numbered, is_unsolved}
-use Rattle.candidate_ir.specs.Declarations.References.{Takes}
-use Rattle.candidate_ir.specs.Unification.Substitutions.{alone}
-use Rattle.candidate_ir.specs.Syntax.Trees.{Kind, Forest, none, tree, Tree, binders_of, holds, is_param, is_type, tree_holds, variable_number}
-use Rattle.candidate_ir.specs.Validity.WellFormed.{IsWellFormedTable}
-use Rattle.candidate_ir.specs.Syntax.Words.{ty_tree}
-use Rattle.candidate_ir.specs.Declarations.Worlds.{AdtSort, OpaqueSort, kinds_of, parameters, parameters_of, sort_number}
-use Rattle.candidate_ir.proofs.Instantiation.Folding.{begin, by_head, or-left, or-right}
-use Rattle.candidate_ir.proofs.Instantiation.Declared.{hidden_is_closed}
-use Rattle.candidate_ir.proofs.Instantiation.Owned.{none-stray}
-use Rattle.candidate_ir.proofs.Validity.WellFormed.{any-of, any-right, definition-passes}
+use Rattle.ir_trees.specs.declared.decl.contents.Sizedness.{Sizedness}
+use Rattle.ir_trees.specs.declared.decl.contents.Sizedness.TheVariants as S
+use Rattle.ir_trees.specs.declared.decl.definition.AssocKind.{AssocKind}
+use Rattle.ir_trees.specs.declared.decl.definition.AssocKind.TheVariants as A
+use Rattle.ir_trees.specs.declared.decl.definition.DefinitionKind.{DefinitionKind}
+use Rattle.ir_trees.specs.declared.decl.definition.DefinitionKind.TheVariants as D
+use Rattle.ir_trees.specs.declared.ir.heads.Builtin.{Builtin}
+use Rattle.ir_trees.specs.declared.ir.heads.Builtin.TheVariants as B
+use Rattle.ir_trees.specs.declared.ir.heads.ConstHead.{ConstHead}
+use Rattle.ir_trees.specs.declared.ir.heads.ConstHead.TheVariants as C
+use Rattle.ir_trees.specs.declared.ir.heads.Head.{Head}
+use Rattle.ir_trees.specs.declared.ir.heads.Head.TheVariants as H
+use Rattle.ir_trees.specs.declared.ir.heads.Variable.{Variable}
+use Rattle.ir_trees.specs.declared.ir.heads.VariableSort.{VariableSort}
+use Rattle.ir_trees.specs.declared.ir.heads.VariableSort.TheVariants as V
+use Rattle.ir_trees.specs.declared.ir.kinds.AliasId.{AliasId}
+use Rattle.ir_trees.specs.declared.ir.kinds.AliasKind.{AliasKind}
+use Rattle.ir_trees.specs.declared.ir.kinds.AliasKind.TheVariants as AK
+use Rattle.ir_trees.specs.declared.ir.kinds.BoundVar.{BoundVar}
+use Rattle.ir_trees.specs.declared.ir.kinds.RegionKind.TheVariants as R
+use Rattle.ir_trees.specs.declared.ir.kinds.Ty.{Ty}
+use Rattle.ir_trees.specs.declared.ir.kinds.VarKind.{VarKind}
+use Rattle.ir_trees.specs.Declarations.Contents.{AdtContents}
+use Rattle.ir_trees.specs.Declarations.Context.{Context, assoc_sort, definition_of, parameter_kind, sort_of, world}
+use Rattle.ir_trees.specs.Declarations.Declaration.{Declaration}
+use Rattle.ir_trees.specs.Declarations.Declaring.{adt_at, adt_place, place_of}
+use Rattle.ir_trees.specs.Instantiation.Folding.{argument, fold, put, shift_tree, substituted_tree}
+use Rattle.ir_trees.specs.Instantiation.Folds.{node}
+use Rattle.ir_trees.specs.Validity.Held.{adt_held, definitions_held, held_type, held_types, impls_held, option_held}
+use Rattle.ir_trees.specs.Declarations.Lookups.{adt_flags, constraint, definition, hidden_type, maybe}
+use Rattle.ir_trees.specs.Validity.Misplaced.{has_self, kinds_of_declared, kinds_of_owner, with_self}
+use Rattle.ir_trees.specs.Instantiation.Owned.{is_numbered, is_unsolved}
+use Rattle.ir_trees.specs.Declarations.References.{Takes}
+use Rattle.ir_trees.specs.Unification.Substitutions.{alone}
+use Rattle.ir_trees.specs.Syntax.Trees.{Kind, Forest, none, tree, Tree, binders_of, holds, is_param, is_type, tree_holds, variable_number}
+use Rattle.ir_trees.specs.Validity.WellFormed.{IsWellFormedTable}
+use Rattle.ir_trees.specs.Syntax.Words.{ty_tree}
+use Rattle.ir_trees.specs.Declarations.Worlds.{AdtSort, OpaqueSort, kinds_of, parameters, parameters_of, sort_number}
+use Rattle.ir_trees.proofs.Instantiation.Folding.{begin, by_head, or-left, or-right}
+use Rattle.ir_context.proofs.Instantiation.Declared.{hidden_is_closed}
+use Rattle.ir_context.proofs.Instantiation.Owned.{none-stray}
+use Rattle.ir_context.proofs.Validity.WellFormed.{any-of, any-right, definition-passes}
 use Rattle.candidate_eval.specs.declared.structural.Column.{Column}
 use Rattle.candidate_eval.specs.declared.structural.Column.TheVariants as Co
 use Rattle.candidate_eval.specs.Derivations.Mentions.{IsBelow, is_at_least, is_from}

@@ -3,24 +3,24 @@ use Rattle.std.proofs.Common.{◌≡◌, ℕ, ◌+◌, ◌<◌, ◌≤◌, List,
 use Rattle.std.specs.Prelude.{if◌then◌else◌, map, option_map, Result, Ok, Err, IfOk}
 use Rattle.std.proofs.lemmas.List.{append-nil, map_push, map_more, take_more, take_all}
 use Rattle.std.proofs.lemmas.Option.{slice_get-map, slice_get-get_or}
-use Rattle.candidate_ir.specs.declared.ir.kinds.GenericArg.{GenericArg}
-use Rattle.candidate_ir.specs.declared.ir.kinds.GenericArg.TheVariants as G
-use Rattle.candidate_ir.specs.declared.ir.kinds.Args.{Args}
-use Rattle.candidate_ir.specs.declared.ir.kinds.Ty.{Ty}
-use Rattle.candidate_ir.specs.declared.ir.stop.Stop.{Stop}
-use Rattle.candidate_ir.specs.Syntax.Trees.{Kind, TypeKind, ConstantKind, RegionKind, is_type_kind, is_list_kind, Forest, none, Tree, tree_holds, row, height, heights}
-use Rattle.candidate_ir.specs.declared.ir.kinds.TyKind.TheVariants as K
-use Rattle.candidate_ir.specs.Syntax.Nodes.{kind_at, tree_at, Extends}
-use Rattle.candidate_ir.specs.Declarations.Context.{Context, Grows}
-use Rattle.candidate_ir.specs.Instantiation.Folding.{substituted_tree, lacks_argument, IsSubstStop, few_numbers}
-use Rattle.candidate_ir.specs.Unification.Substitutions.{alone}
-use Rattle.candidate_ir.specs.Validity.WellFormed.{TypesFit}
-use Rattle.candidate_ir.specs.Syntax.Words.{IsTy, IsArgs, ListFits, list_forest, IsMkStop, ty_tree, args_forest, kind_tree}
-use Rattle.candidate_ir.proofs.Growth.Kept.{number-kept, ty-kept, args-kept, grows-refl, grows-trans}
-use Rattle.candidate_ir.proofs.Syntax.Lists.{below_kind}
-use Rattle.candidate_ir.specs.Syntax.Trees.{there}
-use Rattle.candidate_ir.proofs.Instantiation.Owned.{listed_type}
-use Rattle.candidate_ir.proofs.Syntax.Rows.{kind-of, row-single}
+use Rattle.ir_trees.specs.declared.ir.kinds.GenericArg.{GenericArg}
+use Rattle.ir_trees.specs.declared.ir.kinds.GenericArg.TheVariants as G
+use Rattle.ir_trees.specs.declared.ir.kinds.Args.{Args}
+use Rattle.ir_trees.specs.declared.ir.kinds.Ty.{Ty}
+use Rattle.ir_trees.specs.declared.ir.stop.Stop.{Stop}
+use Rattle.ir_trees.specs.Syntax.Trees.{Kind, TypeKind, ConstantKind, RegionKind, is_type_kind, is_list_kind, Forest, none, Tree, tree_holds, row, height, heights}
+use Rattle.ir_trees.specs.declared.ir.kinds.TyKind.TheVariants as K
+use Rattle.ir_trees.specs.Syntax.Nodes.{kind_at, tree_at, Extends}
+use Rattle.ir_trees.specs.Declarations.Context.{Context, Grows}
+use Rattle.ir_trees.specs.Instantiation.Folding.{substituted_tree, lacks_argument, IsSubstStop, few_numbers}
+use Rattle.ir_trees.specs.Unification.Substitutions.{alone}
+use Rattle.ir_trees.specs.Validity.WellFormed.{TypesFit}
+use Rattle.ir_trees.specs.Syntax.Words.{IsTy, IsArgs, ListFits, list_forest, IsMkStop, ty_tree, args_forest, kind_tree}
+use Rattle.ir_trees.proofs.Growth.Kept.{number-kept, ty-kept, args-kept, grows-refl, grows-trans}
+use Rattle.ir_trees.proofs.Syntax.Lists.{below_kind}
+use Rattle.ir_trees.specs.Syntax.Trees.{there}
+use Rattle.ir_context.proofs.Instantiation.Owned.{listed_type}
+use Rattle.ir_trees.proofs.Syntax.Rows.{kind-of, row-single}
 use Rattle.candidate_eval.specs.Builtins.Tables.{u8, bytes, types_of, first_of, last_type, last_of, optional, with_args, IsTypesStop}
 use Rattle.candidate_eval.specs.Builtins.Asked.{ty_args, first_ty, HaveArguments}
 use Rattle.candidate_eval.proofs.Builtins.Cells.{one-more, no-more, last_pushed}

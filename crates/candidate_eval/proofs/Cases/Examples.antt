@@ -1,18 +1,18 @@
 -- Examples of the definitions, by computation: a wrong definition would show here.
 use Rattle.std.proofs.Common.{◌≡◌, ℕ, zero, suc, Bool, true, false, List, [], ◌∷◌, Some, None, refl, ◌==◌, if◌then◌else◌}
-use Rattle.candidate_ir.specs.declared.ir.stop.Stop.TheVariants.{WalkDepth, EvaluatorLimit}
-use Rattle.candidate_ir.specs.declared.ir.heads.Head.{Head}
-use Rattle.candidate_ir.specs.declared.ir.heads.Head.TheVariants as H
-use Rattle.candidate_ir.specs.declared.ir.heads.Builtin.TheVariants as B
-use Rattle.candidate_ir.specs.declared.ir.heads.PartHead.TheVariants as Part
-use Rattle.candidate_ir.specs.declared.ir.heads.PredHead.TheVariants as PH
-use Rattle.candidate_ir.specs.declared.ir.heads.VariableSort.TheVariants as V
-use Rattle.candidate_ir.specs.declared.ir.kinds.UintTy.TheVariants as U
-use Rattle.candidate_ir.specs.declared.ir.kinds.RegionKind.TheVariants as R
-use Rattle.candidate_ir.specs.declared.ir.kinds.Mutability.TheVariants as M
-use Rattle.candidate_ir.specs.declared.ir.kinds.AliasKind.TheVariants as AK
-use Rattle.candidate_ir.specs.Syntax.Trees.{Kind, TypeKind, Forest, none, tree, Tree}
-use Rattle.candidate_ir.specs.Declarations.Worlds.{AdtSort, TraitSort, AssociatedTypeSort, ForeignSort, Definition, DefinitionSort, World}
+use Rattle.ir_trees.specs.declared.ir.stop.Stop.TheVariants.{WalkDepth, EvaluatorLimit}
+use Rattle.ir_trees.specs.declared.ir.heads.Head.{Head}
+use Rattle.ir_trees.specs.declared.ir.heads.Head.TheVariants as H
+use Rattle.ir_trees.specs.declared.ir.heads.Builtin.TheVariants as B
+use Rattle.ir_trees.specs.declared.ir.heads.PartHead.TheVariants as Part
+use Rattle.ir_trees.specs.declared.ir.heads.PredHead.TheVariants as PH
+use Rattle.ir_trees.specs.declared.ir.heads.VariableSort.TheVariants as V
+use Rattle.ir_trees.specs.declared.ir.kinds.UintTy.TheVariants as U
+use Rattle.ir_trees.specs.declared.ir.kinds.RegionKind.TheVariants as R
+use Rattle.ir_trees.specs.declared.ir.kinds.Mutability.TheVariants as M
+use Rattle.ir_trees.specs.declared.ir.kinds.AliasKind.TheVariants as AK
+use Rattle.ir_trees.specs.Syntax.Trees.{Kind, TypeKind, Forest, none, tree, Tree}
+use Rattle.ir_trees.specs.Declarations.Worlds.{AdtSort, TraitSort, AssociatedTypeSort, ForeignSort, Definition, DefinitionSort, World}
 use Rattle.candidate_eval.specs.Knowability.Orphan.{plain_check, plain_knowability, Knowability, Knowable, Upstream, Downstream, Answer, Passes, NonLocalInput, UncoveredInput, Faulty, Stopped, Refused, Local, Remote, Proper, Compat, orphan_answer, knowability, View, Sees, Fails, Entry}
 
 abbrev pub def : DefinitionSort → ℕ → List Kind → Bool → Definition

@@ -1,13 +1,13 @@
 -- Why the premises of the laws stand: mostly by headers that overlap without one of them.
 use Rattle.std.proofs.Common.{◌≡◌, ℕ, true, false, [], ◌∷◌, ◌++◌, refl, if◌then◌else◌}
-use Rattle.candidate_ir.specs.declared.ir.heads.Head.TheVariants as H
-use Rattle.candidate_ir.specs.declared.ir.heads.Builtin.TheVariants as B
-use Rattle.candidate_ir.specs.declared.ir.heads.VariableSort.TheVariants as V
-use Rattle.candidate_ir.specs.declared.ir.kinds.AliasKind.TheVariants as AK
-use Rattle.candidate_ir.specs.Syntax.Trees.{TypeKind, none, Forest, Tree}
-use Rattle.candidate_ir.specs.Declarations.Worlds.{World, Reference, AdtSort, TraitSort, AssociatedTypeSort}
-use Rattle.candidate_ir.specs.Syntax.Binders.{escapes}
-use Rattle.candidate_ir.specs.Unification.Substitutions.{Overlap, Universes, Binding}
+use Rattle.ir_trees.specs.declared.ir.heads.Head.TheVariants as H
+use Rattle.ir_trees.specs.declared.ir.heads.Builtin.TheVariants as B
+use Rattle.ir_trees.specs.declared.ir.heads.VariableSort.TheVariants as V
+use Rattle.ir_trees.specs.declared.ir.kinds.AliasKind.TheVariants as AK
+use Rattle.ir_trees.specs.Syntax.Trees.{TypeKind, none, Forest, Tree}
+use Rattle.ir_trees.specs.Declarations.Worlds.{World, Reference, AdtSort, TraitSort, AssociatedTypeSort}
+use Rattle.ir_trees.specs.Syntax.Binders.{escapes}
+use Rattle.ir_trees.specs.Unification.Substitutions.{Overlap, Universes, Binding}
 use Rattle.candidate_eval.specs.Knowability.Orphan.{MayWrite, IsCovered, View, Sees, names, plain, view, plain_check, orphan_answer, is_general, Local, Remote, Proper, Passes, NonLocalInput, local_or_fundamental, plain_knowability, Knowable, Downstream}
 use Rattle.candidate_eval.proofs.Cases.Examples.{def, one, ◌&◌, u8, P, Q, La, Lb, New, Pair, Vec, var, it, LocalType, ref}
 

@@ -1,16 +1,16 @@
 -- Rules worked out on the small judge: an impl, a bound that is picked among others, a clause that is characterised.
 use Rattle.std.proofs.Common.{◌≡◌, refl, ℕ, List, [], ◌∷◌, ◌++◌, Bool, true, false}
-use Rattle.candidate_ir.specs.declared.ir.heads.Head.TheVariants as H
-use Rattle.candidate_ir.specs.declared.ir.heads.ListHead.TheVariants as L
-use Rattle.candidate_ir.specs.declared.ir.kinds.PredicatePolarity.TheVariants as Polarity
-use Rattle.candidate_ir.specs.declared.ir.kinds.VarKind.TheVariants as K
-use Rattle.candidate_ir.specs.declared.decl.contents.ImplPolarity.{ImplPolarity}
-use Rattle.candidate_ir.specs.declared.decl.contents.ImplPolarity.TheVariants as I
-use Rattle.candidate_ir.specs.Declarations.Contents.{Impl}
-use Rattle.candidate_ir.specs.declared.ir.heads.PartHead.TheVariants as P
-use Rattle.candidate_ir.specs.declared.ir.heads.ClauseHead.TheVariants as Cl
-use Rattle.candidate_ir.specs.Syntax.Trees.{TypeKind, Forest, none, tree, Tree}
-use Rattle.candidate_ir.specs.Unification.Substitutions.{alone}
+use Rattle.ir_trees.specs.declared.ir.heads.Head.TheVariants as H
+use Rattle.ir_trees.specs.declared.ir.heads.ListHead.TheVariants as L
+use Rattle.ir_trees.specs.declared.ir.kinds.PredicatePolarity.TheVariants as Polarity
+use Rattle.ir_trees.specs.declared.ir.kinds.VarKind.TheVariants as K
+use Rattle.ir_trees.specs.declared.decl.contents.ImplPolarity.{ImplPolarity}
+use Rattle.ir_trees.specs.declared.decl.contents.ImplPolarity.TheVariants as I
+use Rattle.ir_trees.specs.Declarations.Contents.{Impl}
+use Rattle.ir_trees.specs.declared.ir.heads.PartHead.TheVariants as P
+use Rattle.ir_trees.specs.declared.ir.heads.ClauseHead.TheVariants as Cl
+use Rattle.ir_trees.specs.Syntax.Trees.{TypeKind, Forest, none, tree, Tree}
+use Rattle.ir_trees.specs.Unification.Substitutions.{alone}
 use Rattle.candidate_eval.specs.declared.eval.mode.TypingMode.{TypingMode}
 use Rattle.candidate_eval.specs.declared.eval.mode.TypingMode.TheVariants.{Coherence, PostAnalysis}
 use Rattle.candidate_eval.specs.declared.eval.source.CandidateSource.{CandidateSource}
@@ -24,7 +24,7 @@ use Rattle.candidate_eval.specs.Derivations.Characterization.{too_deep}
 use Rattle.candidate_eval.specs.Derivations.ImplRules.{TraitGoal, impl_rule}
 use Rattle.candidate_eval.specs.Dynamic.ObjectRules.{matches_of, picks_of, IsRuleTree}
 use Rattle.candidate_eval.specs.Dynamic.Objects.{Projection}
-use Rattle.candidate_ir.specs.Declarations.Worlds.{World, Reference, TraitSort}
+use Rattle.ir_trees.specs.Declarations.Worlds.{World, Reference, TraitSort}
 use Rattle.candidate_eval.proofs.Cases.RuleToy.{judge, start_with, u8, u16, slice, param, rigid, rigid_above, bound, var, meets}
 
 -- What is told of an answer: its source, the values of the root variables, and how sure it is.

@@ -3,19 +3,19 @@ use Rattle.std.proofs.Common.{◌≡◌, ◌==◌, ℕ, true, false, List, [], �
 use Rattle.std.specs.Prelude.{IfOk, option_map}
 use Rattle.std.specs.Fn.{Mut}
 use Rattle.std.specs.Borrow.{MutBor}
-use Rattle.candidate_ir.specs.declared.ir.heads.Head.{Head}
-use Rattle.candidate_ir.specs.declared.ir.kinds.Clause.{Clause}
-use Rattle.candidate_ir.specs.declared.ir.kinds.GenericArg.{GenericArg}
-use Rattle.candidate_ir.specs.declared.ir.kinds.Ty.{Ty}
-use Rattle.candidate_ir.specs.declared.ir.stop.Stop.{Stop}
-use Rattle.candidate_ir.specs.Declarations.Context.{Context, Grows}
-use Rattle.candidate_ir.specs.Instantiation.Folds.{Asks, FoldsBy, IsReached, arg_tree, by_call, by_nodes, ended, here, is_asked, made, node, opened, passed, replaced}
-use Rattle.candidate_ir.specs.Unification.Substitutions.{alone}
-use Rattle.candidate_ir.specs.Syntax.Trees.{Forest, none, tree, Tree}
-use Rattle.candidate_ir.specs.Validity.WellFormed.{TypesFit}
-use Rattle.candidate_ir.specs.Syntax.Words.{ClauseListFits, IsTy, ty_tree}
-use Rattle.candidate_ir.proofs.Traversal.FoldSteps.{folds-reached, reached-then}
-use Rattle.candidate_ir.proofs.Growth.Kept.{grows-refl, grows-trans, ty-kept}
+use Rattle.ir_trees.specs.declared.ir.heads.Head.{Head}
+use Rattle.ir_trees.specs.declared.ir.kinds.Clause.{Clause}
+use Rattle.ir_trees.specs.declared.ir.kinds.GenericArg.{GenericArg}
+use Rattle.ir_trees.specs.declared.ir.kinds.Ty.{Ty}
+use Rattle.ir_trees.specs.declared.ir.stop.Stop.{Stop}
+use Rattle.ir_trees.specs.Declarations.Context.{Context, Grows}
+use Rattle.ir_trees.specs.Instantiation.Folds.{Asks, FoldsBy, IsReached, arg_tree, by_call, by_nodes, ended, here, is_asked, made, node, opened, passed, replaced}
+use Rattle.ir_trees.specs.Unification.Substitutions.{alone}
+use Rattle.ir_trees.specs.Syntax.Trees.{Forest, none, tree, Tree}
+use Rattle.ir_trees.specs.Validity.WellFormed.{TypesFit}
+use Rattle.ir_trees.specs.Syntax.Words.{ClauseListFits, IsTy, ty_tree}
+use Rattle.ir_folds.proofs.Traversal.FoldSteps.{folds-reached, reached-then}
+use Rattle.ir_trees.proofs.Growth.Kept.{grows-refl, grows-trans, ty-kept}
 use Rattle.candidate_eval.specs.Dynamic.Objects.{Projection}
 use Rattle.candidate_eval.specs.Dynamic.Replacing.{Filled, Finds, without_first, answered, clauses_at, filled, filled_clause, filled_from, finds_own, first_or, left_by, own_projection, then_filled, types_at}
 use Rattle.candidate_eval.proofs.Dynamic.Replacing.{left-fit, left-types}

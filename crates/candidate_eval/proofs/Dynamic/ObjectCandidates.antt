@@ -1,28 +1,28 @@
 -- What object candidates ask for.
 use Rattle.std.proofs.Common.{rules, ◌≡◌, ℕ, List, [], ◌∷◌, Option, Some, None, All, map, refl, sym, ◌∙◌, ap, subst}
 use Rattle.std.proofs.lemmas.List.Elements.{All-cons}
-use Rattle.candidate_ir.specs.declared.ir.heads.ClauseHead.TheVariants as Cl
-use Rattle.candidate_ir.specs.declared.ir.kinds.Binder.{Binder}
-use Rattle.candidate_ir.specs.declared.ir.kinds.Clause.{Clause}
-use Rattle.candidate_ir.specs.declared.ir.kinds.ClauseKind.{ClauseKind}
-use Rattle.candidate_ir.specs.declared.ir.kinds.ClauseKind.TheVariants as K
-use Rattle.candidate_ir.specs.declared.ir.kinds.GenericArg.{GenericArg}
-use Rattle.candidate_ir.specs.declared.ir.kinds.GenericArg.TheVariants as G
-use Rattle.candidate_ir.specs.declared.ir.kinds.Goal.{Goal as OfNumbers}
-use Rattle.candidate_ir.specs.declared.ir.kinds.ParamEnv.{ParamEnv}
-use Rattle.candidate_ir.specs.declared.ir.kinds.TraitPredicate.{TraitPredicate}
-use Rattle.candidate_ir.specs.declared.ir.kinds.TraitRef.{TraitRef}
-use Rattle.candidate_ir.specs.declared.ir.kinds.Ty.{Ty}
-use Rattle.candidate_ir.specs.Declarations.Context.{Context, world}
-use Rattle.candidate_ir.specs.Syntax.Kinds.{clause_head, fact_children, numbers}
-use Rattle.candidate_ir.specs.Syntax.Nodes.{kind_at, rows, tree_at, trees_at}
-use Rattle.candidate_ir.specs.Declarations.References.{ArgumentsFit, FitsAmong, IsWellFormed}
-use Rattle.candidate_ir.specs.Syntax.Trees.{Kind, BinderKind, TypeKind, ConstantKind, RegionKind, ArgumentsKind, Forest, none, tree, Tree, kind_of}
-use Rattle.candidate_ir.specs.Syntax.Words.{IsArgs, IsClause, IsParamEnv, IsTy, ClauseFits, ClauseListFits, ListFits, args_forest, clause_kind_tree, clause_tree, env_forest, list_forest, ty_tree, vars_tree}
-use Rattle.candidate_ir.specs.Declarations.Worlds.{TraitSort, joined, kinds_of, parameters}
-use Rattle.candidate_ir.proofs.Instantiation.Joining.{below_binder, clause-over, over}
-use Rattle.candidate_ir.proofs.Kinding.References.{fit-at}
-use Rattle.candidate_ir.proofs.Syntax.Rows.{join-none, kind-of, row-list, row-single}
+use Rattle.ir_trees.specs.declared.ir.heads.ClauseHead.TheVariants as Cl
+use Rattle.ir_trees.specs.declared.ir.kinds.Binder.{Binder}
+use Rattle.ir_trees.specs.declared.ir.kinds.Clause.{Clause}
+use Rattle.ir_trees.specs.declared.ir.kinds.ClauseKind.{ClauseKind}
+use Rattle.ir_trees.specs.declared.ir.kinds.ClauseKind.TheVariants as K
+use Rattle.ir_trees.specs.declared.ir.kinds.GenericArg.{GenericArg}
+use Rattle.ir_trees.specs.declared.ir.kinds.GenericArg.TheVariants as G
+use Rattle.ir_trees.specs.declared.ir.kinds.Goal.{Goal as OfNumbers}
+use Rattle.ir_trees.specs.declared.ir.kinds.ParamEnv.{ParamEnv}
+use Rattle.ir_trees.specs.declared.ir.kinds.TraitPredicate.{TraitPredicate}
+use Rattle.ir_trees.specs.declared.ir.kinds.TraitRef.{TraitRef}
+use Rattle.ir_trees.specs.declared.ir.kinds.Ty.{Ty}
+use Rattle.ir_trees.specs.Declarations.Context.{Context, world}
+use Rattle.ir_trees.specs.Syntax.Kinds.{clause_head, fact_children, numbers}
+use Rattle.ir_trees.specs.Syntax.Nodes.{kind_at, rows, tree_at, trees_at}
+use Rattle.ir_trees.specs.Declarations.References.{ArgumentsFit, FitsAmong, IsWellFormed}
+use Rattle.ir_trees.specs.Syntax.Trees.{Kind, BinderKind, TypeKind, ConstantKind, RegionKind, ArgumentsKind, Forest, none, tree, Tree, kind_of}
+use Rattle.ir_trees.specs.Syntax.Words.{IsArgs, IsClause, IsParamEnv, IsTy, ClauseFits, ClauseListFits, ListFits, args_forest, clause_kind_tree, clause_tree, env_forest, list_forest, ty_tree, vars_tree}
+use Rattle.ir_trees.specs.Declarations.Worlds.{TraitSort, joined, kinds_of, parameters}
+use Rattle.ir_folds.proofs.Instantiation.Joining.{below_binder, clause-over, over}
+use Rattle.ir_trees.proofs.Kinding.References.{fit-at}
+use Rattle.ir_trees.proofs.Syntax.Rows.{join-none, kind-of, row-list, row-single}
 use Rattle.candidate_eval.specs.Builtins.Asked.{first_ty}
 use Rattle.candidate_eval.specs.Interface.Evaluators.{IsGoal, goal_of}
 use Rattle.candidate_eval.specs.Dynamic.ObjectRequirements.{arguments_of, first_tree, goal_in, goals_in}

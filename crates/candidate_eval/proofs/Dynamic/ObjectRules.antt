@@ -5,15 +5,15 @@ use Rattle.std.specs.List.{filter}
 use Rattle.std.proofs.lemmas.List.{append-nil, length-append, length-map}
 use Rattle.std.proofs.lemmas.Option.{slice_get-get_or, slice_get_within}
 use Rattle.std.proofs.lemmas.List.Elements.{All-append, All-cons, All-filter, All-head, All-nil, All-same, All-tail, All-weaker, filter-append}
-use Rattle.candidate_ir.specs.declared.ir.heads.Head.{Head}
-use Rattle.candidate_ir.specs.Syntax.Binders.{escapes}
-use Rattle.candidate_ir.specs.Unification.Substitutions.{alone}
-use Rattle.candidate_ir.specs.Syntax.Trees.{Forest, none, tree, Tree, count, holds, is_param, join}
-use Rattle.candidate_ir.specs.Instantiation.Folding.{substituted_tree}
-use Rattle.candidate_ir.proofs.Instantiation.Folding.{substituted-nothing}
-use Rattle.candidate_ir.proofs.Traversal.FoldRows.{join-assoc}
-use Rattle.candidate_ir.proofs.Syntax.Rows.{join-none}
-use Rattle.candidate_ir.proofs.Syntax.Splits.{count-join, holds-join}
+use Rattle.ir_trees.specs.declared.ir.heads.Head.{Head}
+use Rattle.ir_trees.specs.Syntax.Binders.{escapes}
+use Rattle.ir_trees.specs.Unification.Substitutions.{alone}
+use Rattle.ir_trees.specs.Syntax.Trees.{Forest, none, tree, Tree, count, holds, is_param, join}
+use Rattle.ir_trees.specs.Instantiation.Folding.{substituted_tree}
+use Rattle.ir_trees.proofs.Instantiation.Folding.{substituted-nothing}
+use Rattle.ir_folds.proofs.Traversal.FoldRows.{join-assoc}
+use Rattle.ir_trees.proofs.Syntax.Rows.{join-none}
+use Rattle.ir_trees.proofs.Syntax.Splits.{count-join, holds-join}
 use Rattle.candidate_eval.specs.Judges.Alike.{JudgesAlike, LooksAlike}
 use Rattle.candidate_eval.specs.Outcomes.Certainties.{Certainty, AMBIGUOUS}
 use Rattle.candidate_eval.specs.Derivations.Characterization.{bound_kinds}

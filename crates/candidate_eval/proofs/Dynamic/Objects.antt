@@ -1,25 +1,25 @@
 -- Bounds of objects, as they are read and instantiated.
 use Rattle.std.proofs.Common.{rules, ◌≡◌, ℕ, Bool, true, ◌==◌, ◌&&◌, List, Option, [], ◌∷◌, ◌++◌, map, refl, sym, ◌∙◌, ap, subst}
-use Rattle.candidate_ir.specs.declared.ir.heads.Head.{Head}
-use Rattle.candidate_ir.specs.declared.ir.heads.ClauseHead.TheVariants as Cl
-use Rattle.candidate_ir.specs.declared.ir.kinds.Binder.{Binder}
-use Rattle.candidate_ir.specs.declared.ir.kinds.Clause.{Clause}
-use Rattle.candidate_ir.specs.declared.ir.kinds.ClauseKind.{ClauseKind}
-use Rattle.candidate_ir.specs.declared.ir.kinds.ClauseKind.TheVariants as K
-use Rattle.candidate_ir.specs.declared.ir.kinds.ParamEnv.{ParamEnv}
-use Rattle.candidate_ir.specs.declared.ir.kinds.ProjectionPredicate.{ProjectionPredicate}
-use Rattle.candidate_ir.specs.declared.ir.kinds.VarKind.{VarKind}
-use Rattle.candidate_ir.specs.Declarations.Context.{Context, Grows}
-use Rattle.candidate_ir.specs.Syntax.Kinds.{clause_head, fact_children, numbers}
-use Rattle.candidate_ir.specs.Syntax.Nodes.{tree_at, trees_at, rows}
-use Rattle.candidate_ir.specs.Instantiation.Opening.{under_variables}
-use Rattle.candidate_ir.specs.Unification.Substitutions.{alone}
-use Rattle.candidate_ir.specs.Syntax.Trees.{TypeKind, ArgumentsKind, ClausesKind, Forest, none, tree, Tree, join}
-use Rattle.candidate_ir.specs.Syntax.Words.{IsArgs, IsClause, IsTy, IsParamEnv, ClauseFits, args_forest, binder_tree, clause_tree, clause_kind_tree, env_forest, ty_tree, vars_tree, var_kind_tree}
-use Rattle.candidate_ir.proofs.Instantiation.Joining.{below_binder, clause-kept, clause-over, over}
-use Rattle.candidate_ir.proofs.Growth.Kept.{number-kept}
-use Rattle.candidate_ir.proofs.Syntax.Lists.{below_kind}
-use Rattle.candidate_ir.proofs.Syntax.Rows.{row-list, row-single}
+use Rattle.ir_trees.specs.declared.ir.heads.Head.{Head}
+use Rattle.ir_trees.specs.declared.ir.heads.ClauseHead.TheVariants as Cl
+use Rattle.ir_trees.specs.declared.ir.kinds.Binder.{Binder}
+use Rattle.ir_trees.specs.declared.ir.kinds.Clause.{Clause}
+use Rattle.ir_trees.specs.declared.ir.kinds.ClauseKind.{ClauseKind}
+use Rattle.ir_trees.specs.declared.ir.kinds.ClauseKind.TheVariants as K
+use Rattle.ir_trees.specs.declared.ir.kinds.ParamEnv.{ParamEnv}
+use Rattle.ir_trees.specs.declared.ir.kinds.ProjectionPredicate.{ProjectionPredicate}
+use Rattle.ir_trees.specs.declared.ir.kinds.VarKind.{VarKind}
+use Rattle.ir_trees.specs.Declarations.Context.{Context, Grows}
+use Rattle.ir_trees.specs.Syntax.Kinds.{clause_head, fact_children, numbers}
+use Rattle.ir_trees.specs.Syntax.Nodes.{tree_at, trees_at, rows}
+use Rattle.ir_trees.specs.Instantiation.Opening.{under_variables}
+use Rattle.ir_trees.specs.Unification.Substitutions.{alone}
+use Rattle.ir_trees.specs.Syntax.Trees.{TypeKind, ArgumentsKind, ClausesKind, Forest, none, tree, Tree, join}
+use Rattle.ir_trees.specs.Syntax.Words.{IsArgs, IsClause, IsTy, IsParamEnv, ClauseFits, args_forest, binder_tree, clause_tree, clause_kind_tree, env_forest, ty_tree, vars_tree, var_kind_tree}
+use Rattle.ir_folds.proofs.Instantiation.Joining.{below_binder, clause-kept, clause-over, over}
+use Rattle.ir_trees.proofs.Growth.Kept.{number-kept}
+use Rattle.ir_trees.proofs.Syntax.Lists.{below_kind}
+use Rattle.ir_trees.proofs.Syntax.Rows.{row-list, row-single}
 use Rattle.candidate_eval.specs.Builtins.Callable.{all_but_last, last_tree}
 use Rattle.candidate_eval.specs.Derivations.Characterization.{binder_kinds, bound_kinds}
 use Rattle.candidate_eval.specs.Interface.Evaluators.{accepted, kinds_listed}

@@ -1,19 +1,19 @@
 -- Terms that bounds give for projections, one after the other.
 use Rattle.std.proofs.Common.{◌≡◌, ℕ, zero, suc, ◌+◌, ◌<◌, ◌≤◌, get_or, take, drop, length, List, [], ◌∷◌, ◌++◌, map, refl, sym, ◌∙◌, ap, subst, arith}
 use Rattle.std.proofs.lemmas.List.{map_push, map_more, take_all}
-use Rattle.candidate_ir.specs.declared.ir.kinds.AliasTerm.{AliasTerm}
-use Rattle.candidate_ir.specs.declared.ir.kinds.Clause.{Clause}
-use Rattle.candidate_ir.specs.declared.ir.kinds.Ty.{Ty}
-use Rattle.candidate_ir.specs.Declarations.Context.{Context, Grows}
-use Rattle.candidate_ir.specs.Syntax.Trees.{Forest, Tree}
-use Rattle.candidate_ir.specs.Validity.WellFormed.{TypesFit}
-use Rattle.candidate_ir.specs.Syntax.Words.{ClauseListFits, IsArgs, IsClause, IsTy, clause_tree, ty_tree}
-use Rattle.candidate_ir.proofs.Instantiation.Joining.{clause-kept}
-use Rattle.candidate_ir.proofs.Growth.Kept.{args-kept, grows-refl, grows-trans, ty-kept}
+use Rattle.ir_trees.specs.declared.ir.kinds.AliasTerm.{AliasTerm}
+use Rattle.ir_trees.specs.declared.ir.kinds.Clause.{Clause}
+use Rattle.ir_trees.specs.declared.ir.kinds.Ty.{Ty}
+use Rattle.ir_trees.specs.Declarations.Context.{Context, Grows}
+use Rattle.ir_trees.specs.Syntax.Trees.{Forest, Tree}
+use Rattle.ir_trees.specs.Validity.WellFormed.{TypesFit}
+use Rattle.ir_trees.specs.Syntax.Words.{ClauseListFits, IsArgs, IsClause, IsTy, clause_tree, ty_tree}
+use Rattle.ir_folds.proofs.Instantiation.Joining.{clause-kept}
+use Rattle.ir_trees.proofs.Growth.Kept.{args-kept, grows-refl, grows-trans, ty-kept}
 use Rattle.candidate_eval.specs.Dynamic.Objects.{IsAmbiguous, IsPicked, Projection, projection_at}
 use Rattle.candidate_eval.specs.Dynamic.Replacing.{AreProjections, AreReplaced, AreStuck, IsReplaced, IsStuck, Picks, clauses_at, filled_clause, finds_own, own_projection, projections, projections_at, types_at}
 use Rattle.candidate_eval.specs.Judges.States.{Env, State, Judge}
-use Rattle.candidate_ir.proofs.Hierarchy.Listing.{pushed_fits}
+use Rattle.ir_context.proofs.Hierarchy.Listing.{pushed_fits}
 use Rattle.candidate_eval.proofs.Outcomes.Responding.{clauses-kept}
 use Rattle.candidate_eval.proofs.Builtins.Types.{pushed_fit, types_kept}
 

@@ -3,29 +3,29 @@ use Rattle.std.proofs.Common.{◌≡◌, ◌↔◌, ℕ, Bool, true, false, ◌&
 use Rattle.std.proofs.lemmas.List.{append-nil, map_push}
 use Rattle.std.specs.Prelude.{◌||◌}
 use Rattle.std.specs.List.{list_any}
-use Rattle.candidate_ir.specs.declared.ir.heads.Head.{Head}
-use Rattle.candidate_ir.specs.declared.ir.kinds.AliasTerm.{AliasTerm}
-use Rattle.candidate_ir.specs.declared.ir.kinds.AssocId.{AssocId}
-use Rattle.candidate_ir.specs.declared.ir.kinds.Clause.{Clause}
-use Rattle.candidate_ir.specs.declared.ir.kinds.GenericArg.{GenericArg}
-use Rattle.candidate_ir.specs.declared.ir.kinds.GenericArg.TheVariants as G
-use Rattle.candidate_ir.specs.declared.ir.heads.Head.TheVariants as H
-use Rattle.candidate_ir.specs.declared.ir.kinds.AliasTy.{AliasTy}
-use Rattle.candidate_ir.specs.declared.ir.kinds.Args.{Args}
-use Rattle.candidate_ir.specs.declared.ir.kinds.Ty.{Ty}
-use Rattle.candidate_ir.specs.declared.ir.kinds.TyKind.{TyKind}
-use Rattle.candidate_ir.specs.declared.ir.kinds.TyKind.TheVariants as K
-use Rattle.candidate_ir.specs.Hierarchy.Elaboration.{same_tree}
-use Rattle.candidate_ir.specs.Instantiation.Folds.{IsArg, arg_tree, is_asked, is_asked_kind}
-use Rattle.candidate_ir.specs.Syntax.Kinds.{arg_number, arg_kind}
-use Rattle.candidate_ir.specs.Syntax.Nodes.{tree_at, kind_at}
-use Rattle.candidate_ir.specs.Syntax.Trees.{Kind, TypeKind, ConstantKind, RegionKind, ArgumentsKind, ClauseKind, Forest, none, tree, Tree, holds, is_alias, kind_of}
-use Rattle.candidate_ir.specs.Validity.WellFormed.{TypesFit}
-use Rattle.candidate_ir.specs.Syntax.Words.{IsArgs, IsClause, IsTy, KindFits, ListFits, args_forest, clause_tree, kind_tree, list_forest, ty_tree}
-use Rattle.candidate_ir.proofs.Hierarchy.Elaboration.{tree_is, tree_itself}
-use Rattle.candidate_ir.proofs.Instantiation.Folding.{or-left, or-right}
-use Rattle.candidate_ir.specs.Syntax.Trees.{there}
-use Rattle.candidate_ir.proofs.Syntax.Rows.{join-none, kind-of, row-list, row-single}
+use Rattle.ir_trees.specs.declared.ir.heads.Head.{Head}
+use Rattle.ir_trees.specs.declared.ir.kinds.AliasTerm.{AliasTerm}
+use Rattle.ir_trees.specs.declared.ir.kinds.AssocId.{AssocId}
+use Rattle.ir_trees.specs.declared.ir.kinds.Clause.{Clause}
+use Rattle.ir_trees.specs.declared.ir.kinds.GenericArg.{GenericArg}
+use Rattle.ir_trees.specs.declared.ir.kinds.GenericArg.TheVariants as G
+use Rattle.ir_trees.specs.declared.ir.heads.Head.TheVariants as H
+use Rattle.ir_trees.specs.declared.ir.kinds.AliasTy.{AliasTy}
+use Rattle.ir_trees.specs.declared.ir.kinds.Args.{Args}
+use Rattle.ir_trees.specs.declared.ir.kinds.Ty.{Ty}
+use Rattle.ir_trees.specs.declared.ir.kinds.TyKind.{TyKind}
+use Rattle.ir_trees.specs.declared.ir.kinds.TyKind.TheVariants as K
+use Rattle.ir_trees.specs.Hierarchy.Elaboration.{same_tree}
+use Rattle.ir_trees.specs.Instantiation.Folds.{IsArg, arg_tree, is_asked, is_asked_kind}
+use Rattle.ir_trees.specs.Syntax.Kinds.{arg_number, arg_kind}
+use Rattle.ir_trees.specs.Syntax.Nodes.{tree_at, kind_at}
+use Rattle.ir_trees.specs.Syntax.Trees.{Kind, TypeKind, ConstantKind, RegionKind, ArgumentsKind, ClauseKind, Forest, none, tree, Tree, holds, is_alias, kind_of}
+use Rattle.ir_trees.specs.Validity.WellFormed.{TypesFit}
+use Rattle.ir_trees.specs.Syntax.Words.{IsArgs, IsClause, IsTy, KindFits, ListFits, args_forest, clause_tree, kind_tree, list_forest, ty_tree}
+use Rattle.ir_context.proofs.Hierarchy.Elaboration.{tree_is, tree_itself}
+use Rattle.ir_trees.proofs.Instantiation.Folding.{or-left, or-right}
+use Rattle.ir_trees.specs.Syntax.Trees.{there}
+use Rattle.ir_trees.proofs.Syntax.Rows.{join-none, kind-of, row-list, row-single}
 use Rattle.candidate_eval.specs.Builtins.Asked.{first_ty}
 use Rattle.candidate_eval.specs.Dynamic.Objects.{Projection, is_about, projection_at}
 use Rattle.candidate_eval.specs.Dynamic.Replacing.{alias_in, any_is_about, clauses_at, finds_own, item_of, left_by, own_item, own_projection, projection_if, starts_with, types_at, Finds, projections, found_or, AreProjections, projections_at}

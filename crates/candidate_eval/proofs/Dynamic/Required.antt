@@ -5,37 +5,37 @@ use Rattle.std.specs.List.{flat_map}
 use Rattle.std.proofs.lemmas.List.{append-nil, map_push, take_all, take_more}
 use Rattle.std.proofs.lemmas.List.Folds.{flat_map-map}
 use Rattle.std.proofs.lemmas.Grind.{flat_map-append}
-use Rattle.candidate_ir.specs.declared.ir.heads.Head.TheVariants as H
-use Rattle.candidate_ir.specs.declared.ir.heads.PartHead.TheVariants as P
-use Rattle.candidate_ir.specs.declared.ir.heads.PredHead.TheVariants as PH
-use Rattle.candidate_ir.specs.declared.ir.heads.ClauseHead.TheVariants as Cl
-use Rattle.candidate_ir.specs.declared.ir.kinds.Args.{Args}
-use Rattle.candidate_ir.specs.declared.ir.kinds.AssocId.{AssocId}
-use Rattle.candidate_ir.specs.declared.ir.kinds.Binder.{Binder}
-use Rattle.candidate_ir.specs.declared.ir.kinds.Clause.{Clause}
-use Rattle.candidate_ir.specs.declared.ir.kinds.ClauseKind.{ClauseKind}
-use Rattle.candidate_ir.specs.declared.ir.kinds.ClauseKind.TheVariants as K
-use Rattle.candidate_ir.specs.declared.ir.kinds.ExistentialPredicate.{ExistentialPredicate}
-use Rattle.candidate_ir.specs.declared.ir.kinds.ExistentialPredicate.TheVariants as E
-use Rattle.candidate_ir.specs.declared.ir.kinds.ExistentialProjection.{ExistentialProjection}
-use Rattle.candidate_ir.specs.declared.ir.kinds.GenericArg.{GenericArg}
-use Rattle.candidate_ir.specs.declared.ir.kinds.GenericArg.TheVariants as G
-use Rattle.candidate_ir.specs.declared.ir.kinds.Pred.{Pred}
-use Rattle.candidate_ir.specs.declared.ir.kinds.Preds.{Preds}
-use Rattle.candidate_ir.specs.declared.ir.kinds.Ty.{Ty}
-use Rattle.candidate_ir.specs.Declarations.Context.{Context, Grows, world}
-use Rattle.candidate_ir.specs.Syntax.Nodes.{kind_at, tree_at, trees_at, rows}
-use Rattle.candidate_ir.specs.Declarations.References.{IsWellFormed, FitsAmong, Takes}
-use Rattle.candidate_ir.specs.Unification.Substitutions.{alone}
-use Rattle.candidate_ir.specs.Syntax.Trees.{Kind, TypeKind, PredicateKind, BinderKind, ArgumentsKind, Forest, none, tree, Tree, kind_of, join}
-use Rattle.candidate_ir.specs.Syntax.Words.{IsArgs, IsClause, IsPred, IsTy, IsVars, ClauseFits, ClauseListFits, PredFits, PredListFits, args_forest, clause_kind_tree, clause_tree, list_forest, pred_kind_tree, pred_list_forest, pred_tree, preds_forest, ty_tree, vars_tree}
-use Rattle.candidate_ir.specs.Declarations.Worlds.{World, AssociatedTypeSort, joined, kinds_of, parameters}
-use Rattle.candidate_ir.proofs.Instantiation.Joining.{clause-over, over}
-use Rattle.candidate_ir.proofs.Growth.Kept.{grows-refl, grows-trans, number-kept, ty-kept, world-kept}
-use Rattle.candidate_ir.proofs.Syntax.Lists.{below_kind}
-use Rattle.candidate_ir.proofs.Hierarchy.Listing.{clauses_kept, pushed_fits, vars_kept}
-use Rattle.candidate_ir.proofs.Kinding.References.{fit-at}
-use Rattle.candidate_ir.proofs.Syntax.Rows.{kind-of, row-list, row-single}
+use Rattle.ir_trees.specs.declared.ir.heads.Head.TheVariants as H
+use Rattle.ir_trees.specs.declared.ir.heads.PartHead.TheVariants as P
+use Rattle.ir_trees.specs.declared.ir.heads.PredHead.TheVariants as PH
+use Rattle.ir_trees.specs.declared.ir.heads.ClauseHead.TheVariants as Cl
+use Rattle.ir_trees.specs.declared.ir.kinds.Args.{Args}
+use Rattle.ir_trees.specs.declared.ir.kinds.AssocId.{AssocId}
+use Rattle.ir_trees.specs.declared.ir.kinds.Binder.{Binder}
+use Rattle.ir_trees.specs.declared.ir.kinds.Clause.{Clause}
+use Rattle.ir_trees.specs.declared.ir.kinds.ClauseKind.{ClauseKind}
+use Rattle.ir_trees.specs.declared.ir.kinds.ClauseKind.TheVariants as K
+use Rattle.ir_trees.specs.declared.ir.kinds.ExistentialPredicate.{ExistentialPredicate}
+use Rattle.ir_trees.specs.declared.ir.kinds.ExistentialPredicate.TheVariants as E
+use Rattle.ir_trees.specs.declared.ir.kinds.ExistentialProjection.{ExistentialProjection}
+use Rattle.ir_trees.specs.declared.ir.kinds.GenericArg.{GenericArg}
+use Rattle.ir_trees.specs.declared.ir.kinds.GenericArg.TheVariants as G
+use Rattle.ir_trees.specs.declared.ir.kinds.Pred.{Pred}
+use Rattle.ir_trees.specs.declared.ir.kinds.Preds.{Preds}
+use Rattle.ir_trees.specs.declared.ir.kinds.Ty.{Ty}
+use Rattle.ir_trees.specs.Declarations.Context.{Context, Grows, world}
+use Rattle.ir_trees.specs.Syntax.Nodes.{kind_at, tree_at, trees_at, rows}
+use Rattle.ir_trees.specs.Declarations.References.{IsWellFormed, FitsAmong, Takes}
+use Rattle.ir_trees.specs.Unification.Substitutions.{alone}
+use Rattle.ir_trees.specs.Syntax.Trees.{Kind, TypeKind, PredicateKind, BinderKind, ArgumentsKind, Forest, none, tree, Tree, kind_of, join}
+use Rattle.ir_trees.specs.Syntax.Words.{IsArgs, IsClause, IsPred, IsTy, IsVars, ClauseFits, ClauseListFits, PredFits, PredListFits, args_forest, clause_kind_tree, clause_tree, list_forest, pred_kind_tree, pred_list_forest, pred_tree, preds_forest, ty_tree, vars_tree}
+use Rattle.ir_trees.specs.Declarations.Worlds.{World, AssociatedTypeSort, joined, kinds_of, parameters}
+use Rattle.ir_folds.proofs.Instantiation.Joining.{clause-over, over}
+use Rattle.ir_trees.proofs.Growth.Kept.{grows-refl, grows-trans, number-kept, ty-kept, world-kept}
+use Rattle.ir_trees.proofs.Syntax.Lists.{below_kind}
+use Rattle.ir_context.proofs.Hierarchy.Listing.{clauses_kept, pushed_fits, vars_kept}
+use Rattle.ir_trees.proofs.Kinding.References.{fit-at}
+use Rattle.ir_trees.proofs.Syntax.Rows.{kind-of, row-list, row-single}
 use Rattle.candidate_eval.specs.Dynamic.Required.{as_bound, each_of, own_bound, own_bounds, said_of}
 
 -- One clause more

@@ -5,38 +5,38 @@ use Rattle.std.specs.List.{flat_map}
 use Rattle.std.proofs.lemmas.List.{append-nil, map-append}
 use Rattle.std.proofs.lemmas.List.Concat.{flat_map_single}
 use Rattle.std.proofs.lemmas.Option.{slice_get-map}
-use Rattle.candidate_ir.specs.declared.decl.definition.AssocKind.TheVariants as A
-use Rattle.candidate_ir.specs.declared.decl.definition.DefinitionKind.{DefinitionKind}
-use Rattle.candidate_ir.specs.declared.decl.definition.DefinitionKind.TheVariants as D
-use Rattle.candidate_ir.specs.declared.ir.heads.Head.{Head}
-use Rattle.candidate_ir.specs.declared.ir.heads.Head.TheVariants as H
-use Rattle.candidate_ir.specs.declared.ir.heads.PartHead.TheVariants as P
-use Rattle.candidate_ir.specs.declared.ir.heads.ClauseHead.TheVariants as Cl
-use Rattle.candidate_ir.specs.declared.ir.kinds.Args.{Args}
-use Rattle.candidate_ir.specs.declared.ir.kinds.AssocId.{AssocId}
-use Rattle.candidate_ir.specs.declared.ir.kinds.Clause.{Clause}
-use Rattle.candidate_ir.specs.declared.ir.kinds.PredicatePolarity.TheVariants as Polarity
-use Rattle.candidate_ir.specs.declared.ir.kinds.TraitRef.{TraitRef}
-use Rattle.candidate_ir.specs.Declarations.Contents.{Bounds, TraitContents}
-use Rattle.candidate_ir.specs.Declarations.Context.{Context, Grows, world, definition_of, parameter_kind, sort_of}
-use Rattle.candidate_ir.specs.Declarations.Declaration.{Declaration}
-use Rattle.candidate_ir.specs.Declarations.Declaring.{bounds_at, bounds_place, place_of, trait_at, trait_place}
-use Rattle.candidate_ir.specs.Hierarchy.Elaboration.{SuperClauses, Elaborates, ended, step, IsElaboration, implied, implied_by, super_clauses, unlisted}
-use Rattle.candidate_ir.specs.Instantiation.Folding.{lacks_argument, substituted_tree}
-use Rattle.candidate_ir.specs.Validity.Held.{definition_held}
-use Rattle.candidate_ir.specs.Declarations.Lookups.{assoc_kind, kind_of_declared, maybe, requires_sized_self}
-use Rattle.candidate_ir.specs.Declarations.References.{ArgumentsFit, IsWellFormed, FitsAmong}
-use Rattle.candidate_ir.specs.Hierarchy.Supers.{supers_at}
-use Rattle.candidate_ir.specs.Hierarchy.Supertraits.{head_trait}
-use Rattle.candidate_ir.specs.Syntax.Trees.{Kind, TypeKind, BinderKind, Forest, Tree, tree_holds}
-use Rattle.candidate_ir.specs.Validity.WellFormed.{IsWellFormedTable, AreGiven}
-use Rattle.candidate_ir.specs.Syntax.Words.{IsArgs, IsClause, ClauseListFits, args_forest, clause_tree}
-use Rattle.candidate_ir.specs.Declarations.Worlds.{World, TraitSort, joined, kinds_of, parameters, parameters_of, sort_number}
-use Rattle.candidate_ir.proofs.Validity.Given.{definition_given, non_self_bounds_fit, self_bounds_fit, supers_fit}
-use Rattle.candidate_ir.proofs.Instantiation.Joining.{clause-kept}
-use Rattle.candidate_ir.proofs.Growth.Kept.{args-kept, grows-trans, world-kept}
-use Rattle.candidate_ir.proofs.Hierarchy.Listing.{clauses_kept}
-use Rattle.candidate_ir.proofs.Kinding.References.{fit-at}
+use Rattle.ir_trees.specs.declared.decl.definition.AssocKind.TheVariants as A
+use Rattle.ir_trees.specs.declared.decl.definition.DefinitionKind.{DefinitionKind}
+use Rattle.ir_trees.specs.declared.decl.definition.DefinitionKind.TheVariants as D
+use Rattle.ir_trees.specs.declared.ir.heads.Head.{Head}
+use Rattle.ir_trees.specs.declared.ir.heads.Head.TheVariants as H
+use Rattle.ir_trees.specs.declared.ir.heads.PartHead.TheVariants as P
+use Rattle.ir_trees.specs.declared.ir.heads.ClauseHead.TheVariants as Cl
+use Rattle.ir_trees.specs.declared.ir.kinds.Args.{Args}
+use Rattle.ir_trees.specs.declared.ir.kinds.AssocId.{AssocId}
+use Rattle.ir_trees.specs.declared.ir.kinds.Clause.{Clause}
+use Rattle.ir_trees.specs.declared.ir.kinds.PredicatePolarity.TheVariants as Polarity
+use Rattle.ir_trees.specs.declared.ir.kinds.TraitRef.{TraitRef}
+use Rattle.ir_trees.specs.Declarations.Contents.{Bounds, TraitContents}
+use Rattle.ir_trees.specs.Declarations.Context.{Context, Grows, world, definition_of, parameter_kind, sort_of}
+use Rattle.ir_trees.specs.Declarations.Declaration.{Declaration}
+use Rattle.ir_trees.specs.Declarations.Declaring.{bounds_at, bounds_place, place_of, trait_at, trait_place}
+use Rattle.ir_trees.specs.Hierarchy.Elaboration.{SuperClauses, Elaborates, ended, step, IsElaboration, implied, implied_by, super_clauses, unlisted}
+use Rattle.ir_trees.specs.Instantiation.Folding.{lacks_argument, substituted_tree}
+use Rattle.ir_trees.specs.Validity.Held.{definition_held}
+use Rattle.ir_trees.specs.Declarations.Lookups.{assoc_kind, kind_of_declared, maybe, requires_sized_self}
+use Rattle.ir_trees.specs.Declarations.References.{ArgumentsFit, IsWellFormed, FitsAmong}
+use Rattle.ir_trees.specs.Hierarchy.Supers.{supers_at}
+use Rattle.ir_trees.specs.Hierarchy.Supertraits.{head_trait}
+use Rattle.ir_trees.specs.Syntax.Trees.{Kind, TypeKind, BinderKind, Forest, Tree, tree_holds}
+use Rattle.ir_trees.specs.Validity.WellFormed.{IsWellFormedTable, AreGiven}
+use Rattle.ir_trees.specs.Syntax.Words.{IsArgs, IsClause, ClauseListFits, args_forest, clause_tree}
+use Rattle.ir_trees.specs.Declarations.Worlds.{World, TraitSort, joined, kinds_of, parameters, parameters_of, sort_number}
+use Rattle.ir_context.proofs.Validity.Given.{definition_given, non_self_bounds_fit, self_bounds_fit, supers_fit}
+use Rattle.ir_folds.proofs.Instantiation.Joining.{clause-kept}
+use Rattle.ir_trees.proofs.Growth.Kept.{args-kept, grows-trans, world-kept}
+use Rattle.ir_context.proofs.Hierarchy.Listing.{clauses_kept}
+use Rattle.ir_trees.proofs.Kinding.References.{fit-at}
 use Rattle.candidate_eval.specs.declared.objects.required.Declared.{Declared}
 use Rattle.candidate_eval.specs.declared.objects.required.Declared.TheVariants as W
 use Rattle.candidate_eval.specs.Dynamic.Required.{AreRequirements, bounds_of_items, declared_at, declared_trees, is_required, is_type_item, item_bounds, items_of, non_self_bounds, required_bounds, self_bounds, with_arguments}

@@ -4,14 +4,14 @@ use Rattle.std.specs.Prelude.{if◌then◌else◌}
 use Rattle.std.specs.List.{filter}
 use Rattle.std.proofs.lemmas.List.{map_push, map_more, take_all, length-map, append-nil}
 use Rattle.std.proofs.lemmas.List.Elements.{filter-append}
-use Rattle.candidate_ir.specs.declared.ir.kinds.Clause.{Clause}
-use Rattle.candidate_ir.specs.Declarations.Context.{Context, Grows}
-use Rattle.candidate_ir.specs.Syntax.Nodes.{kind_at}
-use Rattle.candidate_ir.specs.Syntax.Trees.{ClauseKind, Forest, Tree}
-use Rattle.candidate_ir.specs.Syntax.Words.{IsClause, ClauseListFits, clause_tree}
-use Rattle.candidate_ir.proofs.Instantiation.Joining.{clause-kept}
-use Rattle.candidate_ir.proofs.Growth.Kept.{grows-refl, grows-trans}
-use Rattle.candidate_ir.proofs.Hierarchy.Listing.{pushed_fits}
+use Rattle.ir_trees.specs.declared.ir.kinds.Clause.{Clause}
+use Rattle.ir_trees.specs.Declarations.Context.{Context, Grows}
+use Rattle.ir_trees.specs.Syntax.Nodes.{kind_at}
+use Rattle.ir_trees.specs.Syntax.Trees.{ClauseKind, Forest, Tree}
+use Rattle.ir_trees.specs.Syntax.Words.{IsClause, ClauseListFits, clause_tree}
+use Rattle.ir_folds.proofs.Instantiation.Joining.{clause-kept}
+use Rattle.ir_trees.proofs.Growth.Kept.{grows-refl, grows-trans}
+use Rattle.ir_context.proofs.Hierarchy.Listing.{pushed_fits}
 use Rattle.candidate_eval.specs.Judges.Lawful.{Lawful}
 use Rattle.candidate_eval.specs.Dynamic.Objects.{IsExact, IsPicked, IsPickedAtOnce, Projection, Tried, bound_equated, bound_matches, fresh_instance, is_about, term_in}
 use Rattle.candidate_eval.specs.Judges.States.{Env, State, Judge, is_some}

@@ -1,15 +1,15 @@
 -- What decides nothing in the remote check decides nothing in a proper one where nothing is local.
 use Rattle.std.proofs.Common.{◌≡◌, Bool, true, false, List, [], ◌∷◌, Option, Some, None, slice_get, refl, if◌then◌else◌}
-use Rattle.candidate_ir.specs.declared.ir.heads.PartHead.TheVariants as P
-use Rattle.candidate_ir.specs.declared.ir.heads.PredHead.TheVariants as PH
-use Rattle.candidate_ir.specs.declared.ir.heads.ClauseHead.TheVariants as Cl
-use Rattle.candidate_ir.specs.Syntax.Trees.{Forest, none, tree, Tree, erased_head, holds, is_loose}
-use Rattle.candidate_ir.specs.Declarations.Worlds.{Definition, World}
-use Rattle.candidate_ir.specs.declared.ir.heads.Head.{Head}
-use Rattle.candidate_ir.specs.declared.ir.kinds.AliasKind.{AliasKind}
-use Rattle.candidate_ir.specs.declared.ir.heads.Head.TheVariants as H
-use Rattle.candidate_ir.specs.declared.ir.heads.ConstHead.TheVariants as C
-use Rattle.candidate_ir.specs.declared.ir.kinds.AliasKind.TheVariants as AK
+use Rattle.ir_trees.specs.declared.ir.heads.PartHead.TheVariants as P
+use Rattle.ir_trees.specs.declared.ir.heads.PredHead.TheVariants as PH
+use Rattle.ir_trees.specs.declared.ir.heads.ClauseHead.TheVariants as Cl
+use Rattle.ir_trees.specs.Syntax.Trees.{Forest, none, tree, Tree, erased_head, holds, is_loose}
+use Rattle.ir_trees.specs.Declarations.Worlds.{Definition, World}
+use Rattle.ir_trees.specs.declared.ir.heads.Head.{Head}
+use Rattle.ir_trees.specs.declared.ir.kinds.AliasKind.{AliasKind}
+use Rattle.ir_trees.specs.declared.ir.heads.Head.TheVariants as H
+use Rattle.ir_trees.specs.declared.ir.heads.ConstHead.TheVariants as C
+use Rattle.ir_trees.specs.declared.ir.kinds.AliasKind.TheVariants as AK
 use Rattle.candidate_eval.specs.Knowability.Orphan.{CrateTest, crate_passes, names_here, Item, Viewed, Empty, Broken, Step, Class, IsNonLocal, class_of, view_class, alias_class, decides, Local, Proper, Remote}
 use Rattle.candidate_eval.proofs.Frontier.Walks.{Clear}
 use Rattle.candidate_eval.proofs.Knowability.Agree.{U, Proper_class}

@@ -1,13 +1,13 @@
 -- What a walk comes to makes the answer.
 use Rattle.std.proofs.Common.{◌≡◌, ℕ, Bool, true, false, List, [], ◌++◌, Option, None, Result, Ok, Err, sym, ◌∙◌, ap, subst}
 use Rattle.std.specs.Prelude.{IfOk, IfErr, IfSome}
-use Rattle.candidate_ir.specs.declared.ir.kinds.Ty.{Ty}
-use Rattle.candidate_ir.specs.declared.ir.kinds.Args.{Args}
-use Rattle.candidate_ir.specs.declared.ir.stop.Stop.{Stop}
-use Rattle.candidate_ir.specs.Declarations.Context.{Context, Grows, world}
-use Rattle.candidate_ir.specs.Syntax.Trees.{Forest, Tree}
-use Rattle.candidate_ir.specs.Syntax.Words.{IsArgs, IsTy, args_forest, ty_tree}
-use Rattle.candidate_ir.proofs.Growth.Kept.{args-kept, ty-kept}
+use Rattle.ir_trees.specs.declared.ir.kinds.Ty.{Ty}
+use Rattle.ir_trees.specs.declared.ir.kinds.Args.{Args}
+use Rattle.ir_trees.specs.declared.ir.stop.Stop.{Stop}
+use Rattle.ir_trees.specs.Declarations.Context.{Context, Grows, world}
+use Rattle.ir_trees.specs.Syntax.Trees.{Forest, Tree}
+use Rattle.ir_trees.specs.Syntax.Words.{IsArgs, IsTy, args_forest, ty_tree}
+use Rattle.ir_trees.proofs.Growth.Kept.{args-kept, ty-kept}
 use Rattle.candidate_eval.specs.declared.coherence.IsFirstInputType.{IsFirstInputType}
 use Rattle.candidate_eval.specs.declared.coherence.OrphanStop.{OrphanStop}
 use Rattle.candidate_eval.specs.declared.coherence.OrphanStop.TheVariants as O

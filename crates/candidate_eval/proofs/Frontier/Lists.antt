@@ -1,15 +1,15 @@
 -- A walk over a list, as what is left of it.
 use Rattle.std.proofs.Common.{◌≡◌, ◌+◌, ◌<◌, ℕ, Bool, true, false, List, [], ◌++◌, length, get_or, Some, None, refl, sym, ◌∙◌, ap, append_assoc, if◌then◌else◌}
 use Rattle.std.proofs.lemmas.List.{append-nil}
-use Rattle.candidate_ir.specs.declared.ir.kinds.Ty.{Ty}
-use Rattle.candidate_ir.specs.declared.ir.kinds.GenericArg.{GenericArg}
-use Rattle.candidate_ir.specs.declared.ir.kinds.GenericArg.TheVariants as A
-use Rattle.candidate_ir.specs.Syntax.Kinds.{arg_number, arg_kind}
-use Rattle.candidate_ir.specs.Syntax.Nodes.{tree_at, kind_at}
-use Rattle.candidate_ir.specs.Syntax.Trees.{TypeKind, ConstantKind, RegionKind, Forest, none, tree, Tree, is_type, is_type_kind, skip}
-use Rattle.candidate_ir.specs.Syntax.Words.{ListFits, list_forest, IsTy, ty_tree}
-use Rattle.candidate_ir.proofs.Syntax.Members.{member-kind, skip-member}
-use Rattle.candidate_ir.proofs.Syntax.Rows.{kind-of}
+use Rattle.ir_trees.specs.declared.ir.kinds.Ty.{Ty}
+use Rattle.ir_trees.specs.declared.ir.kinds.GenericArg.{GenericArg}
+use Rattle.ir_trees.specs.declared.ir.kinds.GenericArg.TheVariants as A
+use Rattle.ir_trees.specs.Syntax.Kinds.{arg_number, arg_kind}
+use Rattle.ir_trees.specs.Syntax.Nodes.{tree_at, kind_at}
+use Rattle.ir_trees.specs.Syntax.Trees.{TypeKind, ConstantKind, RegionKind, Forest, none, tree, Tree, is_type, is_type_kind, skip}
+use Rattle.ir_trees.specs.Syntax.Words.{ListFits, list_forest, IsTy, ty_tree}
+use Rattle.ir_trees.proofs.Syntax.Members.{member-kind, skip-member}
+use Rattle.ir_trees.proofs.Syntax.Rows.{kind-of}
 use Rattle.candidate_eval.specs.declared.coherence.walk.Walk.{Walk}
 use Rattle.candidate_eval.specs.Knowability.Orphan.{View, Step, Class, Entry, entries, first_step, left}
 use Rattle.candidate_eval.specs.Calls.Walk.{Setting, classes, type_steps, list_steps, deciding, still, entries_of, Passed, Found}

@@ -1,16 +1,16 @@
 -- The loop over a list of arguments, in contexts that grow.
 use Rattle.std.proofs.Common.{◌≡◌, ◌+◌, ◌<◌, ℕ, true, false, List, length, get_or, Result, Err, sym, ◌∙◌, ap, subst, arith}
-use Rattle.candidate_ir.specs.declared.ir.kinds.Ty.{Ty}
-use Rattle.candidate_ir.specs.declared.ir.kinds.Args.{Args}
-use Rattle.candidate_ir.specs.declared.ir.kinds.GenericArg.{GenericArg}
-use Rattle.candidate_ir.specs.declared.ir.kinds.GenericArg.TheVariants as A
-use Rattle.candidate_ir.specs.Declarations.Context.{Context, Grows}
-use Rattle.candidate_ir.specs.Syntax.Kinds.{arg_number}
-use Rattle.candidate_ir.specs.Syntax.Nodes.{tree_at}
-use Rattle.candidate_ir.specs.Syntax.Trees.{Forest, Tree, count, tree, skip}
-use Rattle.candidate_ir.specs.Syntax.Words.{IsArgs, ListFits, list_forest, args_forest, ty_tree}
-use Rattle.candidate_ir.proofs.Growth.Kept.{args-kept}
-use Rattle.candidate_ir.proofs.Syntax.Members.{count-members}
+use Rattle.ir_trees.specs.declared.ir.kinds.Ty.{Ty}
+use Rattle.ir_trees.specs.declared.ir.kinds.Args.{Args}
+use Rattle.ir_trees.specs.declared.ir.kinds.GenericArg.{GenericArg}
+use Rattle.ir_trees.specs.declared.ir.kinds.GenericArg.TheVariants as A
+use Rattle.ir_trees.specs.Declarations.Context.{Context, Grows}
+use Rattle.ir_trees.specs.Syntax.Kinds.{arg_number}
+use Rattle.ir_trees.specs.Syntax.Nodes.{tree_at}
+use Rattle.ir_trees.specs.Syntax.Trees.{Forest, Tree, count, tree, skip}
+use Rattle.ir_trees.specs.Syntax.Words.{IsArgs, ListFits, list_forest, args_forest, ty_tree}
+use Rattle.ir_trees.proofs.Growth.Kept.{args-kept}
+use Rattle.ir_trees.proofs.Syntax.Members.{count-members}
 use Rattle.candidate_eval.specs.declared.coherence.walk.EarlyExit.{EarlyExit}
 use Rattle.candidate_eval.specs.declared.coherence.walk.Walk.{Walk}
 use Rattle.candidate_eval.specs.Knowability.Normalizer.{Untold}

@@ -1,25 +1,25 @@
 -- The shapes of views.
 use Rattle.std.proofs.Common.{◌≡◌, ◌&&◌, not, List, Bool, true, false, Option, Some, None, refl, sym, ◌∙◌, ap}
-use Rattle.candidate_ir.specs.declared.ir.heads.Head.{Head}
-use Rattle.candidate_ir.specs.declared.ir.heads.Head.TheVariants as H
-use Rattle.candidate_ir.specs.declared.ir.heads.PartHead.TheVariants as P
-use Rattle.candidate_ir.specs.declared.ir.heads.PredHead.TheVariants as PH
-use Rattle.candidate_ir.specs.declared.ir.kinds.TyKind.TheVariants as K
-use Rattle.candidate_ir.specs.declared.ir.kinds.TraitId.{TraitId}
-use Rattle.candidate_ir.specs.declared.ir.kinds.AdtId.{AdtId}
-use Rattle.candidate_ir.specs.declared.ir.kinds.Args.{Args}
-use Rattle.candidate_ir.specs.declared.ir.kinds.Preds.{Preds}
-use Rattle.candidate_ir.specs.declared.ir.kinds.Region.{Region}
-use Rattle.candidate_ir.specs.declared.ir.kinds.Ty.{Ty}
-use Rattle.candidate_ir.specs.declared.ir.kinds.Mutability.{Mutability}
-use Rattle.candidate_ir.specs.Declarations.Context.{Context, world}
-use Rattle.candidate_ir.specs.Declarations.Names.{principal_of}
-use Rattle.candidate_ir.specs.Declarations.Names as names
-use Rattle.candidate_ir.specs.Syntax.Nodes.{kind_at, tree_at}
-use Rattle.candidate_ir.specs.Syntax.Trees.{TypeKind, RegionKind, ArgumentsKind, PredicatesKind, Forest, none, tree, Tree, row, join, kind_of, is_type_kind}
-use Rattle.candidate_ir.specs.Declarations.Worlds.{World}
-use Rattle.candidate_ir.specs.Syntax.Words.{KindFits, kind_tree, args_forest, preds_forest}
-use Rattle.candidate_ir.proofs.Syntax.Rows.{join-none, kind-of, row-single, row-list}
+use Rattle.ir_trees.specs.declared.ir.heads.Head.{Head}
+use Rattle.ir_trees.specs.declared.ir.heads.Head.TheVariants as H
+use Rattle.ir_trees.specs.declared.ir.heads.PartHead.TheVariants as P
+use Rattle.ir_trees.specs.declared.ir.heads.PredHead.TheVariants as PH
+use Rattle.ir_trees.specs.declared.ir.kinds.TyKind.TheVariants as K
+use Rattle.ir_trees.specs.declared.ir.kinds.TraitId.{TraitId}
+use Rattle.ir_trees.specs.declared.ir.kinds.AdtId.{AdtId}
+use Rattle.ir_trees.specs.declared.ir.kinds.Args.{Args}
+use Rattle.ir_trees.specs.declared.ir.kinds.Preds.{Preds}
+use Rattle.ir_trees.specs.declared.ir.kinds.Region.{Region}
+use Rattle.ir_trees.specs.declared.ir.kinds.Ty.{Ty}
+use Rattle.ir_trees.specs.declared.ir.kinds.Mutability.{Mutability}
+use Rattle.ir_trees.specs.Declarations.Context.{Context, world}
+use Rattle.ir_trees.specs.Declarations.Names.{principal_of}
+use Rattle.ir_trees.specs.Declarations.Names as names
+use Rattle.ir_trees.specs.Syntax.Nodes.{kind_at, tree_at}
+use Rattle.ir_trees.specs.Syntax.Trees.{TypeKind, RegionKind, ArgumentsKind, PredicatesKind, Forest, none, tree, Tree, row, join, kind_of, is_type_kind}
+use Rattle.ir_trees.specs.Declarations.Worlds.{World}
+use Rattle.ir_trees.specs.Syntax.Words.{KindFits, kind_tree, args_forest, preds_forest}
+use Rattle.ir_trees.proofs.Syntax.Rows.{join-none, kind-of, row-single, row-list}
 use Rattle.candidate_eval.specs.Knowability.Orphan.{InCrate, CrateTest, crate_test, is_local, is_fundamental, by_bound, principal_passes}
 use Rattle.candidate_eval.specs.Calls.Shapes.{IsReference, IsFundamental, IsShape}
 use Rattle.candidate_eval.specs.Calls.Table.{owned_in}

@@ -1,9 +1,9 @@
 -- The view of a type by its resolved form and the normaliser's answer.
 use Rattle.std.proofs.Common.{◌≡◌, Bool, true, false, sym, ◌∙◌, ap, if◌then◌else◌}
-use Rattle.candidate_ir.specs.declared.ir.kinds.Ty.{Ty}
-use Rattle.candidate_ir.specs.Declarations.Context.{Context}
-use Rattle.candidate_ir.specs.Syntax.Trees.{Tree}
-use Rattle.candidate_ir.specs.Syntax.Words.{ty_tree}
+use Rattle.ir_trees.specs.declared.ir.kinds.Ty.{Ty}
+use Rattle.ir_trees.specs.Declarations.Context.{Context}
+use Rattle.ir_trees.specs.Syntax.Trees.{Tree}
+use Rattle.ir_trees.specs.Syntax.Words.{ty_tree}
 use Rattle.candidate_eval.specs.Knowability.Orphan.{Seen, Sees, Sight, View, view, is_general, unless_general}
 
 pub view-general : {S E : Type 0} (resolve : S → Tree → Tree) (normal : View S E) (s after : S) (t u v w : Tree)

@@ -1,14 +1,14 @@
 -- A visit in whole, from the shape of its view.
 use Rattle.std.proofs.Common.{◌≡◌, ℕ, suc, true, false, List, Result, Ok, Err, refl, sym, ◌∙◌, ap, subst}
 use Rattle.std.specs.Prelude.{OnOk}
-use Rattle.candidate_ir.specs.declared.ir.kinds.Ty.{Ty}
-use Rattle.candidate_ir.specs.declared.ir.kinds.Args.{Args}
-use Rattle.candidate_ir.specs.declared.ir.stop.Stop.{Stop}
-use Rattle.candidate_ir.specs.declared.ir.stop.Stop.TheVariants.{Memory}
-use Rattle.candidate_ir.specs.Declarations.Context.{Context, Grows}
-use Rattle.candidate_ir.specs.Syntax.Trees.{Tree}
-use Rattle.candidate_ir.specs.Syntax.Words.{ty_tree, args_forest}
-use Rattle.candidate_ir.proofs.Growth.Kept.{world-kept}
+use Rattle.ir_trees.specs.declared.ir.kinds.Ty.{Ty}
+use Rattle.ir_trees.specs.declared.ir.kinds.Args.{Args}
+use Rattle.ir_trees.specs.declared.ir.stop.Stop.{Stop}
+use Rattle.ir_trees.specs.declared.ir.stop.Stop.TheVariants.{Memory}
+use Rattle.ir_trees.specs.Declarations.Context.{Context, Grows}
+use Rattle.ir_trees.specs.Syntax.Trees.{Tree}
+use Rattle.ir_trees.specs.Syntax.Words.{ty_tree, args_forest}
+use Rattle.ir_trees.proofs.Growth.Kept.{world-kept}
 use Rattle.candidate_eval.specs.declared.coherence.NormalizeErr.{NormalizeErr}
 use Rattle.candidate_eval.specs.declared.coherence.NormalizeErr.TheVariants as N
 use Rattle.candidate_eval.specs.declared.coherence.table.ViewClass.{ViewClass}

@@ -1,7 +1,7 @@
 -- What calls of an evaluator keep, one after the other and in a probe.
 use Rattle.std.proofs.Common.{◌≡◌, ℕ, subst, sym, ◌∙◌, List, ◌∷◌, Result, Ok, Err, IfErr, OnOk}
-use Rattle.candidate_ir.specs.Declarations.Context.{Context, Grows}
-use Rattle.candidate_ir.proofs.Growth.Kept.{grows-trans}
+use Rattle.ir_trees.specs.Declarations.Context.{Context, Grows}
+use Rattle.ir_trees.proofs.Growth.Kept.{grows-trans}
 use Rattle.candidate_eval.specs.Judges.States.{State, Judge}
 use Rattle.candidate_eval.specs.Interface.Evaluators.{Keeps, KeepsBut, NoFault}
 

@@ -2,13 +2,13 @@
 use Rattle.std.proofs.Common.{◌≡◌, List, [], ◌∷◌, refl, sym, ◌∙◌, ap, subst}
 use Rattle.std.specs.Prelude.{map}
 use Rattle.std.specs.List.{flat_map}
-use Rattle.candidate_ir.specs.declared.ir.kinds.Clause.{Clause}
-use Rattle.candidate_ir.specs.declared.ir.kinds.ParamEnv.{ParamEnv}
-use Rattle.candidate_ir.specs.Declarations.Context.{Context}
-use Rattle.candidate_ir.specs.Syntax.Nodes.{kind_at}
-use Rattle.candidate_ir.specs.Syntax.Trees.{ClauseKind, tree, Tree}
-use Rattle.candidate_ir.specs.Syntax.Words.{ClauseListFits, clause_list_forest, clause_tree, env_forest}
-use Rattle.candidate_ir.proofs.Syntax.Rows.{row-single}
+use Rattle.ir_trees.specs.declared.ir.kinds.Clause.{Clause}
+use Rattle.ir_trees.specs.declared.ir.kinds.ParamEnv.{ParamEnv}
+use Rattle.ir_trees.specs.Declarations.Context.{Context}
+use Rattle.ir_trees.specs.Syntax.Nodes.{kind_at}
+use Rattle.ir_trees.specs.Syntax.Trees.{ClauseKind, tree, Tree}
+use Rattle.ir_trees.specs.Syntax.Words.{ClauseListFits, clause_list_forest, clause_tree, env_forest}
+use Rattle.ir_trees.proofs.Syntax.Rows.{row-single}
 use Rattle.candidate_eval.specs.Judges.States.{State, resolved, resolved_tree}
 
 abbrev pub resolved_one : State → List Tree → Clause → List Tree

@@ -1,13 +1,13 @@
 -- Stops of what makes nodes.
 use Rattle.std.proofs.Common.{◌≡◌, ◌<◌, ◌≤◌, ℕ, zero, suc, List, Result, Ok, Err, IsErrAnd, length, inl, inr, arith, sym, subst}
 use Rattle.std.specs.Prelude.{IfErr}
-use Rattle.candidate_ir.specs.declared.ir.stop.Stop.{Stop}
-use Rattle.candidate_ir.specs.declared.ir.stop.Stop.TheVariants.{Memory, NodesFull}
-use Rattle.candidate_ir.specs.Hierarchy.Elaboration.{IsElaborationStop, IsInstanceStop, IsRenumberStop, SuperClauses}
-use Rattle.candidate_ir.specs.declared.ir.heads.Head.{Head}
-use Rattle.candidate_ir.specs.Syntax.Nodes.{tree_at}
-use Rattle.candidate_ir.specs.Instantiation.Folding.{IsSubstStop}
-use Rattle.candidate_ir.specs.Syntax.Trees.{Forest, none, tree, Tree, count, skip}
+use Rattle.ir_trees.specs.declared.ir.stop.Stop.{Stop}
+use Rattle.ir_trees.specs.declared.ir.stop.Stop.TheVariants.{Memory, NodesFull}
+use Rattle.ir_trees.specs.Hierarchy.Elaboration.{IsElaborationStop, IsInstanceStop, IsRenumberStop, SuperClauses}
+use Rattle.ir_trees.specs.declared.ir.heads.Head.{Head}
+use Rattle.ir_trees.specs.Syntax.Nodes.{tree_at}
+use Rattle.ir_trees.specs.Instantiation.Folding.{IsSubstStop}
+use Rattle.ir_trees.specs.Syntax.Trees.{Forest, none, tree, Tree, count, skip}
 use Rattle.candidate_eval.specs.Interface.Evaluators.{IsEvaluatorStop, IsMakingStop}
 use Rattle.candidate_eval.specs.Interface.Noting.{IsNotingStop}
 

@@ -4,30 +4,30 @@ use Rattle.std.proofs.lemmas.List.{length-append}
 use Rattle.std.specs.Prelude.{IfErr, option_map}
 use Rattle.std.specs.Fn.{Mut}
 use Rattle.std.specs.Borrow.{MutBor}
-use Rattle.candidate_ir.specs.declared.ir.heads.Head.{Head}
-use Rattle.candidate_ir.specs.declared.ir.kinds.Binder.{Binder}
-use Rattle.candidate_ir.specs.declared.ir.kinds.ClauseKind.{ClauseKind}
-use Rattle.candidate_ir.specs.declared.ir.kinds.GenericArg.{GenericArg}
-use Rattle.candidate_ir.specs.declared.ir.kinds.TyKind.{TyKind}
-use Rattle.candidate_ir.specs.declared.ir.node.Node.{Node}
-use Rattle.candidate_ir.specs.declared.ir.node.Node.TheVariants as N
-use Rattle.candidate_ir.specs.declared.ir.stop.Stop.{Stop}
-use Rattle.candidate_ir.specs.declared.ir.stop.Stop.TheVariants.{Memory}
-use Rattle.candidate_ir.specs.Declarations.Context.{Context, Grows}
-use Rattle.candidate_ir.specs.Declarations.Worlds.{Reference}
-use Rattle.candidate_ir.specs.Hierarchy.Elaboration.{IsElaborationStop, IsInstanceStop, IsRenumberStop, SuperClauses}
-use Rattle.candidate_ir.specs.Instantiation.Folding.{IsSubstStop, bounds_in}
-use Rattle.candidate_ir.specs.Instantiation.Folds.{FoldsBy, IsOfKind, IsReached, StopsBy, Says, are_bounds, arg_tree, by_call, by_nodes, here, node, memory, refused, too_high, full, too_few, after, below_asked, below_passed, later, ended, made, replaced, opened, passed}
-use Rattle.candidate_ir.specs.Syntax.Nodes.{Extends, children_of, head_of, is_bound_kind, node_tree, rows, tallest, tree_at, trees_at}
-use Rattle.candidate_ir.specs.Syntax.Trees.{Forest, Kind, TypeKind, ConstantKind, none, tree, Tree, count, height, heights, join, kind_of, kind_weight, there}
-use Rattle.candidate_ir.specs.Syntax.Kinds.{arg_number, arg_there, numbers}
-use Rattle.candidate_ir.specs.Syntax.Words.{IsMkListStop, IsMkStop, clause_kind_tree, kind_tree}
-use Rattle.candidate_ir.specs.Unification.Substitutions.{row_of}
-use Rattle.candidate_ir.proofs.Growth.Kept.{grows-refl, grows-trans, number-kept}
-use Rattle.candidate_ir.proofs.Syntax.Splits.{rows-height}
-use Rattle.candidate_ir.proofs.Syntax.Lists.{kind_at-present}
-use Rattle.candidate_ir.proofs.Traversal.FoldSteps.{folds-reached}
-use Rattle.candidate_ir.proofs.Traversal.FoldStops.{row-bounds}
+use Rattle.ir_trees.specs.declared.ir.heads.Head.{Head}
+use Rattle.ir_trees.specs.declared.ir.kinds.Binder.{Binder}
+use Rattle.ir_trees.specs.declared.ir.kinds.ClauseKind.{ClauseKind}
+use Rattle.ir_trees.specs.declared.ir.kinds.GenericArg.{GenericArg}
+use Rattle.ir_trees.specs.declared.ir.kinds.TyKind.{TyKind}
+use Rattle.ir_trees.specs.declared.ir.node.Node.{Node}
+use Rattle.ir_trees.specs.declared.ir.node.Node.TheVariants as N
+use Rattle.ir_trees.specs.declared.ir.stop.Stop.{Stop}
+use Rattle.ir_trees.specs.declared.ir.stop.Stop.TheVariants.{Memory}
+use Rattle.ir_trees.specs.Declarations.Context.{Context, Grows}
+use Rattle.ir_trees.specs.Declarations.Worlds.{Reference}
+use Rattle.ir_trees.specs.Hierarchy.Elaboration.{IsElaborationStop, IsInstanceStop, IsRenumberStop, SuperClauses}
+use Rattle.ir_trees.specs.Instantiation.Folding.{IsSubstStop, bounds_in}
+use Rattle.ir_trees.specs.Instantiation.Folds.{FoldsBy, IsOfKind, IsReached, StopsBy, Says, are_bounds, arg_tree, by_call, by_nodes, here, node, memory, refused, too_high, full, too_few, after, below_asked, below_passed, later, ended, made, replaced, opened, passed}
+use Rattle.ir_trees.specs.Syntax.Nodes.{Extends, children_of, head_of, is_bound_kind, node_tree, rows, tallest, tree_at, trees_at}
+use Rattle.ir_trees.specs.Syntax.Trees.{Forest, Kind, TypeKind, ConstantKind, none, tree, Tree, count, height, heights, join, kind_of, kind_weight, there}
+use Rattle.ir_trees.specs.Syntax.Kinds.{arg_number, arg_there, numbers}
+use Rattle.ir_trees.specs.Syntax.Words.{IsMkListStop, IsMkStop, clause_kind_tree, kind_tree}
+use Rattle.ir_trees.specs.Unification.Substitutions.{row_of}
+use Rattle.ir_trees.proofs.Growth.Kept.{grows-refl, grows-trans, number-kept}
+use Rattle.ir_trees.proofs.Syntax.Splits.{rows-height}
+use Rattle.ir_trees.proofs.Syntax.Lists.{kind_at-present}
+use Rattle.ir_folds.proofs.Traversal.FoldSteps.{folds-reached}
+use Rattle.ir_folds.proofs.Traversal.FoldStops.{row-bounds}
 use Rattle.candidate_eval.specs.Builtins.Callable.{IsMadeStop}
 use Rattle.candidate_eval.specs.Builtins.Destruct.{IsConditionsStop}
 use Rattle.candidate_eval.specs.Builtins.Tables.{Asks as AsksTypes, Cell, Excluded, IsCellStop, IsTypesStop, Refused}

@@ -1,19 +1,19 @@
 -- Two tests that take none of the definitions of some trees: where neither walk over them goes wrong, neither decides.
 use Rattle.std.proofs.Common.{◌≡◌, ℕ, zero, suc, Bool, true, false, List, [], ◌∷◌, ◌++◌, refl, sym, ◌∙◌, ap, subst, if◌then◌else◌}
-use Rattle.candidate_ir.specs.declared.ir.heads.PartHead.{PartHead}
-use Rattle.candidate_ir.specs.declared.ir.heads.PartHead.TheVariants as P
-use Rattle.candidate_ir.specs.declared.ir.heads.PredHead.TheVariants as PH
-use Rattle.candidate_ir.specs.declared.ir.kinds.AdtId.{AdtId}
-use Rattle.candidate_ir.specs.declared.ir.heads.VariableSort.{VariableSort}
-use Rattle.candidate_ir.specs.declared.ir.heads.VariableSort.TheVariants as V
-use Rattle.candidate_ir.specs.Syntax.Trees.{Forest, none, tree, Tree, kind_of, is_type, erase, erased_head, holds, is_alias, is_error}
-use Rattle.candidate_ir.specs.Declarations.Worlds.{World}
-use Rattle.candidate_ir.specs.declared.ir.heads.Head.{Head}
-use Rattle.candidate_ir.specs.declared.ir.heads.Head.TheVariants as H
-use Rattle.candidate_ir.specs.Unification.Substitutions.{Substitution, Universes, IsAllowed, apply, replaced, fits_sort, is_constant_kind, lookup}
+use Rattle.ir_trees.specs.declared.ir.heads.PartHead.{PartHead}
+use Rattle.ir_trees.specs.declared.ir.heads.PartHead.TheVariants as P
+use Rattle.ir_trees.specs.declared.ir.heads.PredHead.TheVariants as PH
+use Rattle.ir_trees.specs.declared.ir.kinds.AdtId.{AdtId}
+use Rattle.ir_trees.specs.declared.ir.heads.VariableSort.{VariableSort}
+use Rattle.ir_trees.specs.declared.ir.heads.VariableSort.TheVariants as V
+use Rattle.ir_trees.specs.Syntax.Trees.{Forest, none, tree, Tree, kind_of, is_type, erase, erased_head, holds, is_alias, is_error}
+use Rattle.ir_trees.specs.Declarations.Worlds.{World}
+use Rattle.ir_trees.specs.declared.ir.heads.Head.{Head}
+use Rattle.ir_trees.specs.declared.ir.heads.Head.TheVariants as H
+use Rattle.ir_trees.specs.Unification.Substitutions.{Substitution, Universes, IsAllowed, apply, replaced, fits_sort, is_constant_kind, lookup}
 use Rattle.candidate_eval.specs.Knowability.Orphan.{CrateTest, is_local, is_fundamental, names_here, by_bound, principal_passes, Item, Viewed, Step, Class, class_of, owned_class, decides, Local, Proper, or_empty, walked, visit, frontier, plain, is_variable}
 use Rattle.candidate_eval.proofs.Marks.Holds.{holds_parts}
-use Rattle.candidate_ir.proofs.Unification.Instances.{replaced_kind, erased_kind, stays, part_no_type, list_no_type, lookup_fits, made, head_made, below_made}
+use Rattle.ir_trees.proofs.Unification.Instances.{replaced_kind, erased_kind, stays, part_no_type, list_no_type, lookup_fits, made, head_made, below_made}
 use Rattle.candidate_eval.proofs.Frontier.Walks.{Clear, Good, good_left, good_right, clear_append}
 
 abbrev pub U : Type 0

@@ -1,5 +1,5 @@
 use Rattle.std.proofs.Common.{◌≡◌, Bool, true, false, List, [], ◌∷◌, Option, Some, None, refl, sym, ◌∙◌, ap, subst, if◌then◌else◌}
-use Rattle.candidate_ir.specs.Syntax.Trees.{Tree}
+use Rattle.ir_trees.specs.Syntax.Trees.{Tree}
 use Rattle.candidate_eval.specs.Knowability.Orphan.{Item, Step, Class, IsNonLocal, IsSkipped, IsEmpty, IsLocal, IsUncovered, IsBroken, Refused, Stopped, decides, first_step, Answer, Passes, Faulty, Checked, uncovered, second, decided, judged}
 use Rattle.candidate_eval.proofs.Frontier.Walks.{Clear, Good, goes}
 

@@ -1,7 +1,7 @@
 -- The laws of the definition, for a check in any mode.
 use Rattle.std.proofs.Common.{◌≡◌, ℕ, sym, ◌∙◌, ap}
-use Rattle.candidate_ir.specs.Syntax.Trees.{Forest}
-use Rattle.candidate_ir.specs.Declarations.Worlds.{World}
+use Rattle.ir_trees.specs.Syntax.Trees.{Forest}
+use Rattle.ir_trees.specs.Declarations.Worlds.{World}
 use Rattle.candidate_eval.specs.Knowability.Orphan.{InCrate, Local, Remote, Proper, Compat, View, Passes, orphan_answer}
 use Rattle.candidate_eval.proofs.Knowability.OrphanLaws.{proper_then_compat, remote_law}
 

@@ -1,16 +1,16 @@
 -- A covered header and a check that doesn't go wrong, whose trees have a common instance: nothing decides the check.
 use Rattle.std.proofs.Common.{◌≡◌, ℕ, zero, suc, Bool, true, false, List, [], ◌∷◌, ◌++◌, None, slice_get, refl, sym, ◌∙◌, ap, if◌then◌else◌}
-use Rattle.candidate_ir.specs.declared.ir.kinds.AdtId.{AdtId}
-use Rattle.candidate_ir.specs.Syntax.Trees.{Forest, none, tree, is_type, erase, holds, is_alias, is_error}
-use Rattle.candidate_ir.specs.Declarations.Worlds.{World}
-use Rattle.candidate_ir.specs.declared.ir.heads.Head.{Head}
-use Rattle.candidate_ir.specs.declared.ir.heads.Head.TheVariants as H
-use Rattle.candidate_ir.specs.Unification.Substitutions.{Substitution, Universes, IsAllowed, apply, replaced}
+use Rattle.ir_trees.specs.declared.ir.kinds.AdtId.{AdtId}
+use Rattle.ir_trees.specs.Syntax.Trees.{Forest, none, tree, is_type, erase, holds, is_alias, is_error}
+use Rattle.ir_trees.specs.Declarations.Worlds.{World}
+use Rattle.ir_trees.specs.declared.ir.heads.Head.{Head}
+use Rattle.ir_trees.specs.declared.ir.heads.Head.TheVariants as H
+use Rattle.ir_trees.specs.Unification.Substitutions.{Substitution, Universes, IsAllowed, apply, replaced}
 use Rattle.candidate_eval.specs.Knowability.Orphan.{CrateTest, is_fundamental, names_here, principal_passes, Item, Step, Class, or_empty, walked, visit, plain, is_variable, any_variable, shows_variable}
 use Rattle.candidate_eval.proofs.Marks.Holds.{or_false, holds_parts}
 use Rattle.candidate_eval.proofs.Frontier.Walks.{Clear, Good, good_left, good_right, clear_append}
 use Rattle.candidate_eval.proofs.Knowability.Agree.{U, Walk, adt_steps, adt_is, adt_good, adt_clear, owned_clear, principal_clear, principal_made, no_variable, both_type, same_head, Proper_class, Steps}
-use Rattle.candidate_ir.proofs.Unification.Instances.{made, head_made, below_made}
+use Rattle.ir_trees.proofs.Unification.Instances.{made, head_made, below_made}
 use Rattle.candidate_eval.proofs.Frontier.Carry.{none_passes}
 
 variable_left : (xs ys : List (Step U U)) → any_variable (xs ++ ys) ≡ false → any_variable xs ≡ false

@@ -1,16 +1,16 @@
 -- What fits the declared world is in it, and fits every world that extends it.
 use Rattle.std.proofs.Common.{◌≡◌, ℕ, Bool, false, List, [], ◌∷◌, Option, Some, None, is_none, slice_get, refl, sym, ◌∙◌, ap}
-use Rattle.candidate_ir.specs.declared.ir.heads.PartHead.{PartHead}
-use Rattle.candidate_ir.specs.declared.ir.heads.PartHead.TheVariants as P
-use Rattle.candidate_ir.specs.declared.ir.heads.PredHead.TheVariants as PH
-use Rattle.candidate_ir.specs.declared.ir.heads.ClauseHead.TheVariants as Cl
-use Rattle.candidate_ir.specs.Syntax.Trees.{Kind, SignatureKind, BinderKind, TypeKind, Forest, none, tree, holds}
-use Rattle.candidate_ir.specs.Declarations.Worlds.{AdtSort, ForeignSort, FunctionSort, ClosureSort, OpaqueSort, AliasSort, AssociatedConstantSort, DefinitionSort, TraitSort, AssociatedTypeSort, Definition, World, Reference, Extends, parameters, parameters_of, joined, alias_kinds, clause_kinds, part_kinds, child_kinds, kinds_of, Fits, IsOf}
-use Rattle.candidate_ir.specs.declared.ir.heads.Head.{Head}
-use Rattle.candidate_ir.specs.declared.ir.kinds.AliasKind.{AliasKind}
-use Rattle.candidate_ir.specs.declared.ir.heads.Head.TheVariants as H
-use Rattle.candidate_ir.specs.declared.ir.heads.ConstHead.TheVariants as C
-use Rattle.candidate_ir.specs.declared.ir.kinds.AliasKind.TheVariants as AK
+use Rattle.ir_trees.specs.declared.ir.heads.PartHead.{PartHead}
+use Rattle.ir_trees.specs.declared.ir.heads.PartHead.TheVariants as P
+use Rattle.ir_trees.specs.declared.ir.heads.PredHead.TheVariants as PH
+use Rattle.ir_trees.specs.declared.ir.heads.ClauseHead.TheVariants as Cl
+use Rattle.ir_trees.specs.Syntax.Trees.{Kind, SignatureKind, BinderKind, TypeKind, Forest, none, tree, holds}
+use Rattle.ir_trees.specs.Declarations.Worlds.{AdtSort, ForeignSort, FunctionSort, ClosureSort, OpaqueSort, AliasSort, AssociatedConstantSort, DefinitionSort, TraitSort, AssociatedTypeSort, Definition, World, Reference, Extends, parameters, parameters_of, joined, alias_kinds, clause_kinds, part_kinds, child_kinds, kinds_of, Fits, IsOf}
+use Rattle.ir_trees.specs.declared.ir.heads.Head.{Head}
+use Rattle.ir_trees.specs.declared.ir.kinds.AliasKind.{AliasKind}
+use Rattle.ir_trees.specs.declared.ir.heads.Head.TheVariants as H
+use Rattle.ir_trees.specs.declared.ir.heads.ConstHead.TheVariants as C
+use Rattle.ir_trees.specs.declared.ir.kinds.AliasKind.TheVariants as AK
 
 -- whether a definition in the head isn't in the world
 abbrev pub is_missing : World → Head → Bool

@@ -1,19 +1,19 @@
 -- What is known of a reference by the two checks.
 use Rattle.std.proofs.Common.{◌≡◌, ℕ, Bool, true, false, List, Result, Ok, Err, refl, sym, ◌∙◌, ap, if◌then◌else◌}
 use Rattle.std.specs.Prelude.{is_ok}
-use Rattle.candidate_ir.specs.declared.ir.kinds.Args.{Args}
-use Rattle.candidate_ir.specs.declared.ir.kinds.Ty.{Ty}
-use Rattle.candidate_ir.specs.declared.ir.kinds.TraitRef.{TraitRef}
-use Rattle.candidate_ir.specs.Declarations.Context.{Context, Grows, world}
-use Rattle.candidate_ir.specs.Syntax.Trees.{Forest, Tree}
-use Rattle.candidate_ir.specs.Declarations.Worlds.{World, Reference}
-use Rattle.candidate_ir.specs.Syntax.Words.{IsArgs, args_forest}
-use Rattle.candidate_ir.proofs.Growth.Kept.{args-kept, world-kept}
+use Rattle.ir_trees.specs.declared.ir.kinds.Args.{Args}
+use Rattle.ir_trees.specs.declared.ir.kinds.Ty.{Ty}
+use Rattle.ir_trees.specs.declared.ir.kinds.TraitRef.{TraitRef}
+use Rattle.ir_trees.specs.Declarations.Context.{Context, Grows, world}
+use Rattle.ir_trees.specs.Syntax.Trees.{Forest, Tree}
+use Rattle.ir_trees.specs.Declarations.Worlds.{World, Reference}
+use Rattle.ir_trees.specs.Syntax.Words.{IsArgs, args_forest}
+use Rattle.ir_trees.proofs.Growth.Kept.{args-kept, world-kept}
 use Rattle.candidate_eval.specs.declared.coherence.OrphanCheckErr.{OrphanCheckErr}
 use Rattle.candidate_eval.specs.declared.coherence.OrphanCheckErr.TheVariants as C
 use Rattle.candidate_eval.specs.declared.coherence.OrphanStop.{OrphanStop}
 use Rattle.candidate_eval.specs.declared.coherence.OrphanStop.TheVariants as O
-use Rattle.candidate_ir.specs.Declarations.References.{reference_of}
+use Rattle.ir_trees.specs.Declarations.References.{reference_of}
 use Rattle.candidate_eval.specs.Knowability.Answers.{CheckResult, answer_of, knowledge_of}
 use Rattle.candidate_eval.specs.Knowability.Orphan.{InCrate, Local, Remote, Proper, View, Answer, Checked, orphan_answer, Knowability, Knowable, Upstream, Downstream, knowability, local_or_fundamental, by_answer, by_proper_check, by_remote_check}
 

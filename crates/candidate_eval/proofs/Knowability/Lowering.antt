@@ -1,11 +1,11 @@
 -- A check by the plain normaliser, of trees without values, has the answer of the plain check.
 use Rattle.std.proofs.Common.{◌≡◌, ℕ, zero, suc, Bool, true, false, List, [], ◌∷◌, ◌++◌, Option, Some, refl, sym, ◌∙◌, ap, subst, if◌then◌else◌}
-use Rattle.candidate_ir.specs.declared.ir.heads.Head.{Head}
-use Rattle.candidate_ir.specs.declared.ir.heads.Head.TheVariants as H
-use Rattle.candidate_ir.specs.declared.ir.kinds.AliasKind.{AliasKind}
-use Rattle.candidate_ir.specs.declared.ir.kinds.AliasKind.TheVariants as AK
-use Rattle.candidate_ir.specs.Syntax.Trees.{Forest, none, tree, Tree, is_type, is_loose, holds}
-use Rattle.candidate_ir.specs.Declarations.Worlds.{World, Reference}
+use Rattle.ir_trees.specs.declared.ir.heads.Head.{Head}
+use Rattle.ir_trees.specs.declared.ir.heads.Head.TheVariants as H
+use Rattle.ir_trees.specs.declared.ir.kinds.AliasKind.{AliasKind}
+use Rattle.ir_trees.specs.declared.ir.kinds.AliasKind.TheVariants as AK
+use Rattle.ir_trees.specs.Syntax.Trees.{Forest, none, tree, Tree, is_type, is_loose, holds}
+use Rattle.ir_trees.specs.Declarations.Worlds.{World, Reference}
 use Rattle.candidate_eval.specs.Knowability.Orphan.{Refused, Stopped, Seen, Sees, View, is_general, view, plain, Item, Viewed, Empty, Broken, Step, left, or_empty, walked, looked, visit, over, frontier, CrateTest, crate_test, is_local, is_fundamental, InCrate, Local, Remote, Proper, Compat, Class, IsNonLocal, IsSkipped, IsEmpty, IsLocal, IsUncovered, IsBroken, loose_class, projection_class, alias_class, owned_class, principal_passes, view_class, class_of, Answer, Passes, NonLocalInput, UncoveredInput, Faulty, Checked, decides, decides_again, first_step, entry, entries, uncovered, second, decided, judged, orphan_answer, plain_check, Knowable, by_answer, by_proper_check, by_remote_check, local_or_fundamental, knowability, plain_knowability, bare_fault, bare_answer, bare_knowledge}
 use Rattle.candidate_eval.specs.Knowability.Laws.{AreResolved}
 use Rattle.candidate_eval.proofs.Knowability.Agree.{U, Steps}

@@ -1,23 +1,23 @@
 -- A crate with one type of its own that takes the place of a variable: a header of it that overlaps a downstream reference.
 use Rattle.std.proofs.Common.{◌≡◌, ℕ, zero, suc, ◌+◌, ◌<◌, ◌==◌, ◌⊎◌, inl, inr, Bool, true, false, List, [], ◌∷◌, ◌++◌, Option, Some, None, is_none, slice_get, refl, sym, ◌∙◌, ap, subst, if◌then◌else◌, arith}
 use Rattle.std.proofs.lemmas.Bool.{ne_eqb}
-use Rattle.candidate_ir.specs.declared.ir.heads.PartHead.TheVariants as P
-use Rattle.candidate_ir.specs.declared.ir.heads.PredHead.TheVariants as PH
-use Rattle.candidate_ir.specs.declared.ir.heads.ClauseHead.TheVariants as Cl
-use Rattle.candidate_ir.specs.declared.ir.kinds.AdtId.{AdtId}
-use Rattle.candidate_ir.specs.Syntax.Trees.{kind_of, sort_kind, Forest, none, tree, Tree, is_type, holds, is_alias, is_error, erase}
-use Rattle.candidate_ir.specs.Declarations.Worlds.{IsOf, Fits, kinds_of, child_kinds, parameters_of, AdtSort, Definition, World, Reference, Extends}
-use Rattle.candidate_ir.specs.declared.ir.heads.VariableSort.{VariableSort}
-use Rattle.candidate_ir.specs.declared.ir.heads.Variable.{Variable}
-use Rattle.candidate_ir.specs.declared.ir.heads.Head.{Head}
-use Rattle.candidate_ir.specs.declared.ir.heads.Head.TheVariants as H
-use Rattle.candidate_ir.specs.declared.ir.heads.ConstHead.TheVariants as C
-use Rattle.candidate_ir.specs.declared.ir.heads.VariableSort.TheVariants as V
-use Rattle.candidate_ir.specs.Unification.Substitutions.{Substitution, apply, replaced, lookup, same_variable, same_sort, IsAllowed, Universes}
+use Rattle.ir_trees.specs.declared.ir.heads.PartHead.TheVariants as P
+use Rattle.ir_trees.specs.declared.ir.heads.PredHead.TheVariants as PH
+use Rattle.ir_trees.specs.declared.ir.heads.ClauseHead.TheVariants as Cl
+use Rattle.ir_trees.specs.declared.ir.kinds.AdtId.{AdtId}
+use Rattle.ir_trees.specs.Syntax.Trees.{kind_of, sort_kind, Forest, none, tree, Tree, is_type, holds, is_alias, is_error, erase}
+use Rattle.ir_trees.specs.Declarations.Worlds.{IsOf, Fits, kinds_of, child_kinds, parameters_of, AdtSort, Definition, World, Reference, Extends}
+use Rattle.ir_trees.specs.declared.ir.heads.VariableSort.{VariableSort}
+use Rattle.ir_trees.specs.declared.ir.heads.Variable.{Variable}
+use Rattle.ir_trees.specs.declared.ir.heads.Head.{Head}
+use Rattle.ir_trees.specs.declared.ir.heads.Head.TheVariants as H
+use Rattle.ir_trees.specs.declared.ir.heads.ConstHead.TheVariants as C
+use Rattle.ir_trees.specs.declared.ir.heads.VariableSort.TheVariants as V
+use Rattle.ir_trees.specs.Unification.Substitutions.{Substitution, apply, replaced, lookup, same_variable, same_sort, IsAllowed, Universes}
 use Rattle.candidate_eval.specs.Knowability.Orphan.{crate_passes, is_local, is_fundamental, fundamental_flag, names_here, principal_passes, Item, Viewed, Step, Class, IsLocal, owned_class, decides, or_empty, walked, visit, plain, first_step, is_general, is_general_sort, names, MayWrite, remote_decision, judged, Passes, decided, IsPlainForest, plain_knowability, Downstream}
 use Rattle.candidate_eval.specs.Knowability.Laws.{IsDecidedByGeneral, HasDownstream}
 use Rattle.candidate_eval.proofs.Marks.Holds.{holds_parts, holds_imply, holds_erase}
-use Rattle.candidate_ir.proofs.Unification.Instances.{replaced_kind, same_sort_is, and_left}
+use Rattle.ir_trees.proofs.Unification.Instances.{replaced_kind, same_sort_is, and_left}
 use Rattle.candidate_eval.proofs.Frontier.Walks.{Clear, clear_append, clear_left, clear_right}
 use Rattle.candidate_eval.proofs.Knowability.Agree.{U, Walk, adt_steps, adt_is, owned_clear, principal_clear, principal_applied, Proper_class, Steps}
 use Rattle.candidate_eval.proofs.Knowability.Answers.{judged_if}

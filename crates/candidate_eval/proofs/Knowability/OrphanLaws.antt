@@ -1,11 +1,11 @@
 -- The laws of the orphan check: what passes in one mode passes in another, what covers, and the first input.
 use Rattle.std.proofs.Common.{◌≡◌, Bool, true, false, List, [], ◌∷◌, ◌++◌, Option, Some, None, refl, sym, ◌∙◌, ap, subst, if◌then◌else◌}
-use Rattle.candidate_ir.specs.Syntax.Trees.{Forest, Tree, holds, is_loose}
-use Rattle.candidate_ir.specs.Declarations.Worlds.{World}
-use Rattle.candidate_ir.specs.declared.ir.heads.Head.{Head}
-use Rattle.candidate_ir.specs.declared.ir.kinds.AliasKind.{AliasKind}
-use Rattle.candidate_ir.specs.declared.ir.heads.Head.TheVariants as H
-use Rattle.candidate_ir.specs.declared.ir.kinds.AliasKind.TheVariants as AK
+use Rattle.ir_trees.specs.Syntax.Trees.{Forest, Tree, holds, is_loose}
+use Rattle.ir_trees.specs.Declarations.Worlds.{World}
+use Rattle.ir_trees.specs.declared.ir.heads.Head.{Head}
+use Rattle.ir_trees.specs.declared.ir.kinds.AliasKind.{AliasKind}
+use Rattle.ir_trees.specs.declared.ir.heads.Head.TheVariants as H
+use Rattle.ir_trees.specs.declared.ir.kinds.AliasKind.TheVariants as AK
 use Rattle.candidate_eval.specs.Knowability.Orphan.{CrateTest, Item, Viewed, Empty, Broken, Step, Class, IsNonLocal, IsSkipped, IsEmpty, IsLocal, IsUncovered, IsBroken, Refused, Stopped, decides, first_step, Answer, Passes, NonLocalInput, UncoveredInput, Checked, uncovered, second, decided, judged, entry, entries, Entry, frontier, class_of, view_class, alias_class, owned_class, Local, Proper, Compat, Remote, crate_test}
 use Rattle.candidate_eval.specs.Knowability.Laws.{ProperThenCompat, RemoteLaw, FirstInputLaw, NoneFirst, OnlyFirst}
 use Rattle.candidate_eval.proofs.Knowability.Answers.{second_fails, judged_if, Covers}

@@ -1,6 +1,6 @@
 -- What makes a reference resolved.
 use Rattle.std.proofs.Common.{◌≡◌, false, refl}
-use Rattle.candidate_ir.specs.Syntax.Trees.{Forest, none, tree, Tree, holds}
+use Rattle.ir_trees.specs.Syntax.Trees.{Forest, none, tree, Tree, holds}
 use Rattle.candidate_eval.specs.Knowability.Laws.{AreResolved}
 use Rattle.candidate_eval.specs.Knowability.Orphan.{is_variable}
 use Rattle.candidate_eval.proofs.Marks.Holds.{holds_parts}

@@ -1,9 +1,9 @@
 -- Link safety, and that no header of a crate which a knowable reference doesn't name overlaps it.
 use Rattle.std.proofs.Common.{ap, ◌≡◌, ℕ, Bool, true, false, Some, None, refl, sym, ◌∙◌}
-use Rattle.candidate_ir.specs.Syntax.Trees.{Forest, holds, is_alias}
-use Rattle.candidate_ir.specs.Declarations.Worlds.{World, Reference, IsOf}
+use Rattle.ir_trees.specs.Syntax.Trees.{Forest, holds, is_alias}
+use Rattle.ir_trees.specs.Declarations.Worlds.{World, Reference, IsOf}
 use Rattle.candidate_eval.specs.Knowability.Orphan.{MayWrite, names, names_here, plain_check, plain, Local, Proper, Answer, Passes, NonLocalInput, UncoveredInput, Faulty, Checked, by_remote_check, by_proper_check, by_answer, Knowable, plain_knowability, local_or_fundamental, orphan_answer, IsPlainForest}
-use Rattle.candidate_ir.specs.Unification.Substitutions.{Universes, Overlap}
+use Rattle.ir_trees.specs.Unification.Substitutions.{Universes, Overlap}
 use Rattle.candidate_eval.specs.Knowability.Laws.{LinkSafety, NoForeignHeader, NoUnnamedHeader, NoCoveredHeader}
 use Rattle.candidate_eval.proofs.Knowability.OrphanLaws.{remote_covers}
 use Rattle.candidate_eval.proofs.Frontier.Carry.{Remote_class, carry, names_none, erased_names}

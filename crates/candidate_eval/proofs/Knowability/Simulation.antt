@@ -1,9 +1,9 @@
 -- A view whose states are seen through a map answers as the one that it is seen as.
 use Rattle.std.proofs.Common.{◌≡◌, ℕ, zero, suc, Bool, true, false, List, [], ◌∷◌, ◌++◌, Option, Some, None, refl, sym, ◌∙◌, ap, subst, if◌then◌else◌}
-use Rattle.candidate_ir.specs.declared.ir.heads.Head.{Head}
-use Rattle.candidate_ir.specs.declared.ir.heads.Head.TheVariants as H
-use Rattle.candidate_ir.specs.Syntax.Trees.{Forest, none, tree, Tree, is_type}
-use Rattle.candidate_ir.specs.Declarations.Worlds.{World, Reference}
+use Rattle.ir_trees.specs.declared.ir.heads.Head.{Head}
+use Rattle.ir_trees.specs.declared.ir.heads.Head.TheVariants as H
+use Rattle.ir_trees.specs.Syntax.Trees.{Forest, none, tree, Tree, is_type}
+use Rattle.ir_trees.specs.Declarations.Worlds.{World, Reference}
 use Rattle.candidate_eval.specs.Knowability.Orphan.{Seen, Sees, Fails, Sight, View, Item, Step, left, or_empty, walked, looked, visit, over, CrateTest, crate_test, is_local, is_fundamental, InCrate, Class, IsNonLocal, IsSkipped, IsEmpty, IsLocal, IsUncovered, IsBroken, class_of, Answer, NonLocalInput, Checked, decides, decides_again, first_step, entry, entries, second, decided, judged, orphan_answer, Local, Remote, Proper, Passes, UncoveredInput, Faulty, Knowability, Knowable, by_answer, by_proper_check, by_remote_check, local_or_fundamental, knowability}
 
 module _ {S T E : Type 0} (h : S → T) where

@@ -1,12 +1,12 @@
 -- Checks and knowability are the same in every world that extends the declared one.
 use Rattle.std.proofs.Common.{◌≡◌, ℕ, zero, suc, Bool, true, false, List, [], ◌∷◌, ◌++◌, Option, Some, is_none, slice_get, refl, sym, ◌∙◌, ap, if◌then◌else◌}
 use Rattle.std.proofs.Math.Path.{fun_ext}
-use Rattle.candidate_ir.specs.declared.ir.heads.PartHead.TheVariants as P
-use Rattle.candidate_ir.specs.declared.ir.heads.PredHead.TheVariants as PH
-use Rattle.candidate_ir.specs.Syntax.Trees.{Forest, none, tree, Tree, is_type, holds}
-use Rattle.candidate_ir.specs.Declarations.Worlds.{IsOf, Reference, World, Extends}
-use Rattle.candidate_ir.specs.declared.ir.heads.Head.{Head}
-use Rattle.candidate_ir.specs.declared.ir.heads.Head.TheVariants as H
+use Rattle.ir_trees.specs.declared.ir.heads.PartHead.TheVariants as P
+use Rattle.ir_trees.specs.declared.ir.heads.PredHead.TheVariants as PH
+use Rattle.ir_trees.specs.Syntax.Trees.{Forest, none, tree, Tree, is_type, holds}
+use Rattle.ir_trees.specs.Declarations.Worlds.{IsOf, Reference, World, Extends}
+use Rattle.ir_trees.specs.declared.ir.heads.Head.{Head}
+use Rattle.ir_trees.specs.declared.ir.heads.Head.TheVariants as H
 use Rattle.candidate_eval.specs.Knowability.Orphan.{crate_passes, Checked, Answer, plain_knowability, Knowability, orphan_answer, local_or_fundamental, by_remote_check, Local, Proper, Remote, CrateTest, is_local, is_fundamental, by_bound, principal_passes, Item, Viewed, Empty, Step, Class, IsLocal, IsUncovered, class_of, view_class, owned_class, decides, decides_again, first_step, entries, uncovered, second, decided, judged, InCrate, crate_test, or_empty, walked, visit, plain}
 use Rattle.candidate_eval.proofs.Marks.Holds.{holds_parts}
 use Rattle.candidate_eval.proofs.Knowability.Fitting.{is_missing, still_there, fits_there, trait_there}

@@ -1,12 +1,12 @@
 -- What is declared mentions no variable, so none from any number on; and what stood under a binder, over a context that has grown.
 use Rattle.std.proofs.Common.{◌≡◌, ℕ, List, false, Option, Some, None, refl, ◌∙◌, ap}
-use Rattle.candidate_ir.specs.Syntax.Nodes.{tree_at}
-use Rattle.candidate_ir.specs.Instantiation.Opening.{opened, opened_tree}
-use Rattle.candidate_ir.specs.Instantiation.Owned.{is_numbered, is_unsolved}
-use Rattle.candidate_ir.specs.Unification.Substitutions.{alone}
-use Rattle.candidate_ir.specs.Syntax.Trees.{Forest, none, row, tree, Tree, holds, tree_holds, variable_number}
-use Rattle.candidate_ir.proofs.Instantiation.Folding.{or-left, or-right}
-use Rattle.candidate_ir.proofs.Instantiation.Owned.{or-none}
+use Rattle.ir_trees.specs.Syntax.Nodes.{tree_at}
+use Rattle.ir_trees.specs.Instantiation.Opening.{opened, opened_tree}
+use Rattle.ir_trees.specs.Instantiation.Owned.{is_numbered, is_unsolved}
+use Rattle.ir_trees.specs.Unification.Substitutions.{alone}
+use Rattle.ir_trees.specs.Syntax.Trees.{Forest, none, row, tree, Tree, holds, tree_holds, variable_number}
+use Rattle.ir_trees.proofs.Instantiation.Folding.{or-left, or-right}
+use Rattle.ir_context.proofs.Instantiation.Owned.{or-none}
 use Rattle.candidate_eval.specs.Derivations.Mentions.{IsBelow, is_at_least}
 
 number-below : (n : ℕ) (o : Option ℕ) → is_numbered o ≡ false → is_at_least n o ≡ false

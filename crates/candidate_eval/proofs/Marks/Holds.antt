@@ -1,7 +1,7 @@
 -- Whether a head with a mark stands in trees: of a tree, of its parts, of trees without regions, and by another mark.
 use Rattle.std.proofs.Common.{◌≡◌, Bool, true, false, ◌||◌, refl}
-use Rattle.candidate_ir.specs.Syntax.Trees.{Forest, none, tree, erase, erased_head, holds}
-use Rattle.candidate_ir.specs.declared.ir.heads.Head.{Head}
+use Rattle.ir_trees.specs.Syntax.Trees.{Forest, none, tree, erase, erased_head, holds}
+use Rattle.ir_trees.specs.declared.ir.heads.Head.{Head}
 
 pub or_false : (a b : Bool) → (a || b) ≡ false → (a ≡ false) × (b ≡ false)
 or_false true b e = cc

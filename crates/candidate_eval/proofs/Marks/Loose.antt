@@ -1,13 +1,13 @@
 -- A variable, a placeholder or a bound variable among the types of a tree.
 use Rattle.std.proofs.Common.{◌≡◌, Bool, true, false, refl, ◌∙◌, ap}
 use Rattle.std.specs.Prelude.{◌||◌}
-use Rattle.candidate_ir.specs.declared.ir.heads.Head.{Head}
-use Rattle.candidate_ir.specs.declared.ir.heads.Head.TheVariants as H
-use Rattle.candidate_ir.specs.declared.ir.heads.VariableSort.{VariableSort}
-use Rattle.candidate_ir.specs.declared.ir.heads.VariableSort.TheVariants as V
-use Rattle.candidate_ir.specs.declared.ir.heads.Flag.TheVariants as F
-use Rattle.candidate_ir.specs.Syntax.Flags.{mark, of_type}
-use Rattle.candidate_ir.specs.Syntax.Trees.{Forest, none, tree, Tree, holds, tree_holds, is_loose, is_type_kind, sort_kind}
+use Rattle.ir_trees.specs.declared.ir.heads.Head.{Head}
+use Rattle.ir_trees.specs.declared.ir.heads.Head.TheVariants as H
+use Rattle.ir_trees.specs.declared.ir.heads.VariableSort.{VariableSort}
+use Rattle.ir_trees.specs.declared.ir.heads.VariableSort.TheVariants as V
+use Rattle.ir_trees.specs.declared.ir.heads.Flag.TheVariants as F
+use Rattle.ir_trees.specs.Syntax.Flags.{mark, of_type}
+use Rattle.ir_trees.specs.Syntax.Trees.{Forest, none, tree, Tree, holds, tree_holds, is_loose, is_type_kind, sort_kind}
 
 sides : (a b c d : Bool) → (a || b) || (c || d) ≡ (a || c) || (b || d)
 sides true b c d = refl

@@ -1,13 +1,13 @@
 -- What an answer whether two things are equal says in the words of definitions.
 use Rattle.std.proofs.Common.{◌≡◌, refl, sym, ap, ◌∙◌, List, [], ◌∷◌, IsTrue, ◌↔◌, ◌&&◌, Bool, true, false}
 use Rattle.std.specs.Cmp.Lexicographic.{pointwise}
-use Rattle.candidate_ir.specs.Syntax.Trees.{Forest, Tree, ArgumentsKind}
-use Rattle.candidate_ir.specs.Syntax.Nodes.{tree_at}
-use Rattle.candidate_ir.specs.Syntax.Words.{IsArgs, args_forest}
-use Rattle.candidate_ir.specs.declared.ir.kinds.Args.{Args}
-use Rattle.candidate_ir.proofs.Syntax.Splits.{lists-agree}
-use Rattle.candidate_ir.specs.Hierarchy.Elaboration.{same_forest, same_tree}
-use Rattle.candidate_ir.proofs.Hierarchy.Elaboration.{forest_is, forest_itself, tree_is, tree_itself}
+use Rattle.ir_trees.specs.Syntax.Trees.{Forest, Tree, ArgumentsKind}
+use Rattle.ir_trees.specs.Syntax.Nodes.{tree_at}
+use Rattle.ir_trees.specs.Syntax.Words.{IsArgs, args_forest}
+use Rattle.ir_trees.specs.declared.ir.kinds.Args.{Args}
+use Rattle.ir_trees.proofs.Syntax.Splits.{lists-agree}
+use Rattle.ir_trees.specs.Hierarchy.Elaboration.{same_forest, same_tree}
+use Rattle.ir_context.proofs.Hierarchy.Elaboration.{forest_is, forest_itself, tree_is, tree_itself}
 
 and-both : (a b : Bool) → (a && b) ≡ true → (a ≡ true) × (b ≡ true)
 and-both true b e = (refl, e)

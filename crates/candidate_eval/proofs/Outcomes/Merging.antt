@@ -1,10 +1,10 @@
 -- Loops over candidates and over the values of a response, step by step.
 use Rattle.std.proofs.Common.{◌≡◌, sym, ap, ◌∙◌, arith, ℕ, zero, suc, ◌<◌, ◌+◌, List, [], ◌∷◌, length, drop, true, false, ◌&&◌, slice_index_or, subst}
-use Rattle.candidate_ir.specs.declared.ir.kinds.GenericArg.{GenericArg}
-use Rattle.candidate_ir.specs.Syntax.Trees.{Tree, is_number}
-use Rattle.candidate_ir.specs.Instantiation.Folds.{arg_tree}
-use Rattle.candidate_ir.specs.Syntax.Words.{ListFits, list_forest}
-use Rattle.candidate_ir.proofs.Syntax.Members.{member}
+use Rattle.ir_trees.specs.declared.ir.kinds.GenericArg.{GenericArg}
+use Rattle.ir_trees.specs.Syntax.Trees.{Tree, is_number}
+use Rattle.ir_trees.specs.Instantiation.Folds.{arg_tree}
+use Rattle.ir_trees.specs.Syntax.Words.{ListFits, list_forest}
+use Rattle.ir_trees.proofs.Syntax.Members.{member}
 use Rattle.candidate_eval.specs.declared.eval.response.Candidate.{Candidate}
 use Rattle.candidate_eval.specs.Outcomes.Responses.{Response, are_open}
 use Rattle.candidate_eval.specs.Outcomes.ResponseTrees.{AreCandidates, response_of, candidates_of}

@@ -1,8 +1,8 @@
 -- Two lists that show the same, place by place.
 use Rattle.std.proofs.Common.{◌≡◌, refl, ap, ◌∙◌, arith, ℕ, zero, suc, ◌<◌, ◌≤◌, ◌+◌, ◌⊎◌, inl, inr, List, [], ◌∷◌, map, length, IsTrue, ◌↔◌, Bool, true, false, slice_index_or, eq-or-lt_of_le}
-use Rattle.candidate_ir.specs.declared.ir.kinds.Clause.{Clause}
-use Rattle.candidate_ir.specs.Syntax.Trees.{Tree}
-use Rattle.candidate_ir.specs.Syntax.Words.{ClauseListFits, IsClause}
+use Rattle.ir_trees.specs.declared.ir.kinds.Clause.{Clause}
+use Rattle.ir_trees.specs.Syntax.Trees.{Tree}
+use Rattle.ir_trees.specs.Syntax.Words.{ClauseListFits, IsClause}
 
 length-shown : {A C : Type 0} (f : A → C) (xs ys : List A) → map f xs ≡ map f ys → length xs ≡ length ys
 length-shown f [] [] e = refl

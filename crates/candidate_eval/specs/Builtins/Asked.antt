@@ -1,25 +1,25 @@
 -- What each cell is read from, where a type is given by its kind: the tables over numbers.
 use Rattle.std.specs.Prelude.{◌≡◌, All, Bool, true, false, Option, Some, None, List, [], ◌∷◌, map, if◌then◌else◌}
-use Rattle.candidate_ir.specs.declared.ir.kinds.TyKind.{TyKind}
-use Rattle.candidate_ir.specs.declared.ir.kinds.TyKind.TheVariants as K
-use Rattle.candidate_ir.specs.declared.ir.kinds.AliasKind.{AliasKind}
-use Rattle.candidate_ir.specs.declared.ir.kinds.AliasKind.TheVariants as AK
-use Rattle.candidate_ir.specs.declared.ir.kinds.AliasTy.{AliasTy}
-use Rattle.candidate_ir.specs.declared.ir.kinds.InferTy.TheVariants as I
-use Rattle.candidate_ir.specs.declared.ir.kinds.AdtId.{AdtId}
-use Rattle.candidate_ir.specs.declared.ir.kinds.Args.{Args}
-use Rattle.candidate_ir.specs.declared.ir.kinds.GenericArg.{GenericArg}
-use Rattle.candidate_ir.specs.declared.ir.kinds.GenericArg.TheVariants as G
-use Rattle.candidate_ir.specs.declared.ir.kinds.Ty.{Ty}
-use Rattle.candidate_ir.specs.declared.decl.contents.Sizedness.{Sizedness}
-use Rattle.candidate_ir.specs.declared.decl.contents.Sizedness.TheVariants as S
-use Rattle.candidate_ir.specs.Instantiation.Folding.{lacks_argument}
-use Rattle.candidate_ir.specs.Syntax.Trees.{Forest, none, Tree, tree_holds}
-use Rattle.candidate_ir.specs.Declarations.Context.{Context, world}
-use Rattle.candidate_ir.specs.Declarations.Lookups.{adt_flags, definition}
-use Rattle.candidate_ir.specs.Syntax.Words.{IsTy, IsArgs, IsVars, ty_tree, args_forest, vars_tree}
-use Rattle.candidate_ir.specs.Validity.WellFormed.{TypesFit}
-use Rattle.candidate_ir.specs.Declarations.Worlds.{AdtSort, OpaqueSort, parameters, kinds_of}
+use Rattle.ir_trees.specs.declared.ir.kinds.TyKind.{TyKind}
+use Rattle.ir_trees.specs.declared.ir.kinds.TyKind.TheVariants as K
+use Rattle.ir_trees.specs.declared.ir.kinds.AliasKind.{AliasKind}
+use Rattle.ir_trees.specs.declared.ir.kinds.AliasKind.TheVariants as AK
+use Rattle.ir_trees.specs.declared.ir.kinds.AliasTy.{AliasTy}
+use Rattle.ir_trees.specs.declared.ir.kinds.InferTy.TheVariants as I
+use Rattle.ir_trees.specs.declared.ir.kinds.AdtId.{AdtId}
+use Rattle.ir_trees.specs.declared.ir.kinds.Args.{Args}
+use Rattle.ir_trees.specs.declared.ir.kinds.GenericArg.{GenericArg}
+use Rattle.ir_trees.specs.declared.ir.kinds.GenericArg.TheVariants as G
+use Rattle.ir_trees.specs.declared.ir.kinds.Ty.{Ty}
+use Rattle.ir_trees.specs.declared.decl.contents.Sizedness.{Sizedness}
+use Rattle.ir_trees.specs.declared.decl.contents.Sizedness.TheVariants as S
+use Rattle.ir_trees.specs.Instantiation.Folding.{lacks_argument}
+use Rattle.ir_trees.specs.Syntax.Trees.{Forest, none, Tree, tree_holds}
+use Rattle.ir_trees.specs.Declarations.Context.{Context, world}
+use Rattle.ir_trees.specs.Declarations.Lookups.{adt_flags, definition}
+use Rattle.ir_trees.specs.Syntax.Words.{IsTy, IsArgs, IsVars, ty_tree, args_forest, vars_tree}
+use Rattle.ir_trees.specs.Validity.WellFormed.{TypesFit}
+use Rattle.ir_trees.specs.Declarations.Worlds.{AdtSort, OpaqueSort, parameters, kinds_of}
 use Rattle.candidate_eval.specs.declared.structural.asked.Asked.{Asked}
 use Rattle.candidate_eval.specs.declared.structural.asked.Asked.TheVariants as A
 use Rattle.candidate_eval.specs.declared.structural.Column.{Column}

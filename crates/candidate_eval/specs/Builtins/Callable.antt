@@ -1,33 +1,33 @@
 -- What can be called: with which inputs, as one tuple, and to which output.
 use Rattle.std.specs.Prelude.{◌≡◌, ℕ, Bool, true, false, not, ◌&&◌, Option, Some, None, List, [], ◌∷◌, if◌then◌else◌}
-use Rattle.candidate_ir.specs.declared.ir.heads.Builtin.{Builtin}
-use Rattle.candidate_ir.specs.declared.ir.heads.Builtin.TheVariants as B
-use Rattle.candidate_ir.specs.declared.ir.heads.Head.{Head}
-use Rattle.candidate_ir.specs.declared.ir.heads.Head.TheVariants as H
-use Rattle.candidate_ir.specs.declared.ir.heads.PartHead.TheVariants as P
-use Rattle.candidate_ir.specs.declared.ir.heads.VariableSort.{VariableSort}
-use Rattle.candidate_ir.specs.declared.ir.heads.VariableSort.TheVariants as V
-use Rattle.candidate_ir.specs.declared.ir.kinds.Args.{Args}
-use Rattle.candidate_ir.specs.declared.ir.kinds.Binder.{Binder}
-use Rattle.candidate_ir.specs.declared.ir.kinds.ClosureKind.{ClosureKind}
-use Rattle.candidate_ir.specs.declared.ir.kinds.ClosureKind.TheVariants as C
-use Rattle.candidate_ir.specs.declared.ir.kinds.ClosureId.{ClosureId}
-use Rattle.candidate_ir.specs.declared.ir.kinds.FnId.{FnId}
-use Rattle.candidate_ir.specs.declared.ir.kinds.FnSig.{FnSig}
-use Rattle.candidate_ir.specs.declared.ir.kinds.Ty.{Ty}
-use Rattle.candidate_ir.specs.declared.ir.kinds.TyKind.{TyKind}
-use Rattle.candidate_ir.specs.declared.ir.kinds.TyKind.TheVariants as K
-use Rattle.candidate_ir.specs.declared.ir.stop.Stop.{Stop}
-use Rattle.candidate_ir.specs.declared.decl.definition.FnFlags.{FnFlags}
-use Rattle.candidate_ir.specs.Declarations.Context.{Context, world}
-use Rattle.candidate_ir.specs.Syntax.Trees.{Forest, none, tree, Tree, is_type, row}
-use Rattle.candidate_ir.specs.Instantiation.Folding.{argument, substituted_tree}
-use Rattle.candidate_ir.specs.Hierarchy.Elaboration.{first_children}
-use Rattle.candidate_ir.specs.Syntax.Kinds.{is_fn_trait_compatible}
-use Rattle.candidate_ir.specs.Declarations.Lookups.{definition, fn_flags, fn_sig, is_const_closure}
-use Rattle.candidate_ir.specs.Declarations.References.{Takes}
-use Rattle.candidate_ir.specs.Syntax.Words.{IsTy, IsArgs, IsSig, IsVars, KindFits, args_forest, kind_tree, sig_tree, ty_tree, vars_tree}
-use Rattle.candidate_ir.specs.Declarations.Worlds.{FunctionSort, kinds_of, parameters}
+use Rattle.ir_trees.specs.declared.ir.heads.Builtin.{Builtin}
+use Rattle.ir_trees.specs.declared.ir.heads.Builtin.TheVariants as B
+use Rattle.ir_trees.specs.declared.ir.heads.Head.{Head}
+use Rattle.ir_trees.specs.declared.ir.heads.Head.TheVariants as H
+use Rattle.ir_trees.specs.declared.ir.heads.PartHead.TheVariants as P
+use Rattle.ir_trees.specs.declared.ir.heads.VariableSort.{VariableSort}
+use Rattle.ir_trees.specs.declared.ir.heads.VariableSort.TheVariants as V
+use Rattle.ir_trees.specs.declared.ir.kinds.Args.{Args}
+use Rattle.ir_trees.specs.declared.ir.kinds.Binder.{Binder}
+use Rattle.ir_trees.specs.declared.ir.kinds.ClosureKind.{ClosureKind}
+use Rattle.ir_trees.specs.declared.ir.kinds.ClosureKind.TheVariants as C
+use Rattle.ir_trees.specs.declared.ir.kinds.ClosureId.{ClosureId}
+use Rattle.ir_trees.specs.declared.ir.kinds.FnId.{FnId}
+use Rattle.ir_trees.specs.declared.ir.kinds.FnSig.{FnSig}
+use Rattle.ir_trees.specs.declared.ir.kinds.Ty.{Ty}
+use Rattle.ir_trees.specs.declared.ir.kinds.TyKind.{TyKind}
+use Rattle.ir_trees.specs.declared.ir.kinds.TyKind.TheVariants as K
+use Rattle.ir_trees.specs.declared.ir.stop.Stop.{Stop}
+use Rattle.ir_trees.specs.declared.decl.definition.FnFlags.{FnFlags}
+use Rattle.ir_trees.specs.Declarations.Context.{Context, world}
+use Rattle.ir_trees.specs.Syntax.Trees.{Forest, none, tree, Tree, is_type, row}
+use Rattle.ir_trees.specs.Instantiation.Folding.{argument, substituted_tree}
+use Rattle.ir_trees.specs.Hierarchy.Elaboration.{first_children}
+use Rattle.ir_trees.specs.Syntax.Kinds.{is_fn_trait_compatible}
+use Rattle.ir_trees.specs.Declarations.Lookups.{definition, fn_flags, fn_sig, is_const_closure}
+use Rattle.ir_trees.specs.Declarations.References.{Takes}
+use Rattle.ir_trees.specs.Syntax.Words.{IsTy, IsArgs, IsSig, IsVars, KindFits, args_forest, kind_tree, sig_tree, ty_tree, vars_tree}
+use Rattle.ir_trees.specs.Declarations.Worlds.{FunctionSort, kinds_of, parameters}
 use Rattle.candidate_eval.specs.declared.structural.callable.Called.{Called}
 use Rattle.candidate_eval.specs.declared.structural.callable.Called.TheVariants as W
 use Rattle.candidate_eval.specs.declared.structural.callable.CallableId.{CallableId}

@@ -1,26 +1,26 @@
 -- What has to hold for a value of a type to be dropped where a constant is computed.
 use Rattle.std.specs.Prelude.{◌≡◌, ◌⊎◌, ℕ, Bool, true, false, Option, Some, None, List, [], ◌∷◌, ◌++◌, map, slice_get, slice_index_or, if◌then◌else◌}
-use Rattle.candidate_ir.specs.declared.decl.contents.Destructor.{Destructor}
-use Rattle.candidate_ir.specs.declared.decl.contents.Destructor.TheVariants as D
-use Rattle.candidate_ir.specs.declared.decl.contents.LangItem.{LangItem}
-use Rattle.candidate_ir.specs.declared.decl.contents.LangItem.TheVariants as L
-use Rattle.candidate_ir.specs.declared.ir.heads.Head.{Head}
-use Rattle.candidate_ir.specs.declared.ir.heads.Head.TheVariants as H
-use Rattle.candidate_ir.specs.declared.ir.kinds.TraitId.{TraitId}
-use Rattle.candidate_ir.specs.declared.ir.kinds.TraitRef.{TraitRef}
-use Rattle.candidate_ir.specs.declared.ir.stop.Stop.{Stop}
-use Rattle.candidate_ir.specs.declared.ir.stop.Stop.TheVariants.{Memory}
-use Rattle.candidate_ir.specs.declared.ir.kinds.TyKind.{TyKind}
-use Rattle.candidate_ir.specs.declared.ir.kinds.TyKind.TheVariants as K
-use Rattle.candidate_ir.specs.Syntax.Trees.{Tree}
-use Rattle.candidate_ir.specs.Declarations.Context.{Context}
-use Rattle.candidate_ir.specs.Declarations.Declaring.{adt_at, item_number}
-use Rattle.candidate_ir.specs.Instantiation.Folding.{IsSubstStop}
-use Rattle.candidate_ir.specs.Declarations.Lookups.{maybe, adt_flags, definition}
-use Rattle.candidate_ir.specs.Declarations.References.{reference_of}
-use Rattle.candidate_ir.specs.Unification.Substitutions.{alone}
-use Rattle.candidate_ir.specs.Declarations.Worlds.{Reference}
-use Rattle.candidate_ir.specs.Syntax.Words.{IsArgs}
+use Rattle.ir_trees.specs.declared.decl.contents.Destructor.{Destructor}
+use Rattle.ir_trees.specs.declared.decl.contents.Destructor.TheVariants as D
+use Rattle.ir_trees.specs.declared.decl.contents.LangItem.{LangItem}
+use Rattle.ir_trees.specs.declared.decl.contents.LangItem.TheVariants as L
+use Rattle.ir_trees.specs.declared.ir.heads.Head.{Head}
+use Rattle.ir_trees.specs.declared.ir.heads.Head.TheVariants as H
+use Rattle.ir_trees.specs.declared.ir.kinds.TraitId.{TraitId}
+use Rattle.ir_trees.specs.declared.ir.kinds.TraitRef.{TraitRef}
+use Rattle.ir_trees.specs.declared.ir.stop.Stop.{Stop}
+use Rattle.ir_trees.specs.declared.ir.stop.Stop.TheVariants.{Memory}
+use Rattle.ir_trees.specs.declared.ir.kinds.TyKind.{TyKind}
+use Rattle.ir_trees.specs.declared.ir.kinds.TyKind.TheVariants as K
+use Rattle.ir_trees.specs.Syntax.Trees.{Tree}
+use Rattle.ir_trees.specs.Declarations.Context.{Context}
+use Rattle.ir_trees.specs.Declarations.Declaring.{adt_at, item_number}
+use Rattle.ir_trees.specs.Instantiation.Folding.{IsSubstStop}
+use Rattle.ir_trees.specs.Declarations.Lookups.{maybe, adt_flags, definition}
+use Rattle.ir_trees.specs.Declarations.References.{reference_of}
+use Rattle.ir_trees.specs.Unification.Substitutions.{alone}
+use Rattle.ir_trees.specs.Declarations.Worlds.{Reference}
+use Rattle.ir_trees.specs.Syntax.Words.{IsArgs}
 use Rattle.candidate_eval.specs.declared.structural.destruct.OwnDrop.{OwnDrop}
 use Rattle.candidate_eval.specs.declared.structural.destruct.OwnDrop.TheVariants as O
 use Rattle.candidate_eval.specs.Builtins.Tables.{Cell, Asks, row_of, is_manually_drop}

@@ -1,13 +1,13 @@
 -- A view as the walk takes it: an item of a class, or trees to walk.
 use Rattle.std.specs.Prelude.{◌≡◌, true, false, List}
-use Rattle.candidate_ir.specs.declared.ir.heads.Head.TheVariants as H
-use Rattle.candidate_ir.specs.declared.ir.kinds.Mutability.{Mutability}
-use Rattle.candidate_ir.specs.declared.ir.kinds.AdtId.{AdtId}
-use Rattle.candidate_ir.specs.declared.ir.kinds.Args.{Args}
-use Rattle.candidate_ir.specs.declared.ir.kinds.Ty.{Ty}
-use Rattle.candidate_ir.specs.Declarations.Context.{Context, world}
-use Rattle.candidate_ir.specs.Syntax.Trees.{none, tree, Tree, is_type}
-use Rattle.candidate_ir.specs.Syntax.Words.{IsTy, IsArgs, ty_tree, args_forest}
+use Rattle.ir_trees.specs.declared.ir.heads.Head.TheVariants as H
+use Rattle.ir_trees.specs.declared.ir.kinds.Mutability.{Mutability}
+use Rattle.ir_trees.specs.declared.ir.kinds.AdtId.{AdtId}
+use Rattle.ir_trees.specs.declared.ir.kinds.Args.{Args}
+use Rattle.ir_trees.specs.declared.ir.kinds.Ty.{Ty}
+use Rattle.ir_trees.specs.Declarations.Context.{Context, world}
+use Rattle.ir_trees.specs.Syntax.Trees.{none, tree, Tree, is_type}
+use Rattle.ir_trees.specs.Syntax.Words.{IsTy, IsArgs, ty_tree, args_forest}
 use Rattle.candidate_eval.specs.declared.coherence.table.Shape.{Shape}
 use Rattle.candidate_eval.specs.declared.coherence.table.Shape.TheVariants as S
 use Rattle.candidate_eval.specs.Knowability.Orphan.{CrateTest, InCrate, crate_test, is_local, is_fundamental}

@@ -1,11 +1,11 @@
 -- The table of views without the views themselves: the class by head and children.
 use Rattle.std.specs.Prelude.{Bool, true, false, not, ◌&&◌}
-use Rattle.candidate_ir.specs.Syntax.Trees.{Forest, holds, is_loose}
-use Rattle.candidate_ir.specs.Declarations.Worlds.{World}
-use Rattle.candidate_ir.specs.declared.ir.heads.Head.{Head}
-use Rattle.candidate_ir.specs.declared.ir.heads.Head.TheVariants as H
-use Rattle.candidate_ir.specs.declared.ir.kinds.AliasKind.{AliasKind}
-use Rattle.candidate_ir.specs.declared.ir.kinds.AliasKind.TheVariants as AK
+use Rattle.ir_trees.specs.Syntax.Trees.{Forest, holds, is_loose}
+use Rattle.ir_trees.specs.Declarations.Worlds.{World}
+use Rattle.ir_trees.specs.declared.ir.heads.Head.{Head}
+use Rattle.ir_trees.specs.declared.ir.heads.Head.TheVariants as H
+use Rattle.ir_trees.specs.declared.ir.kinds.AliasKind.{AliasKind}
+use Rattle.ir_trees.specs.declared.ir.kinds.AliasKind.TheVariants as AK
 use Rattle.candidate_eval.specs.declared.coherence.table.ViewClass.{ViewClass}
 use Rattle.candidate_eval.specs.declared.coherence.table.ViewClass.TheVariants as V
 use Rattle.candidate_eval.specs.Knowability.Orphan.{InCrate, Local, Remote, Proper, Compat, CrateTest, is_local, is_fundamental, principal_passes}

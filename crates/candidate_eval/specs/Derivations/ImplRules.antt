@@ -1,17 +1,17 @@
 -- The rule of an impl: a goal of a trait holds by an impl of it.
 use Rattle.std.specs.Prelude.{Option, Some, None, List, ◌∷◌, ◌++◌, ◌&&◌, map}
-use Rattle.candidate_ir.specs.declared.ir.kinds.PredicatePolarity.{PredicatePolarity}
-use Rattle.candidate_ir.specs.declared.ir.kinds.PredicatePolarity.TheVariants as P
-use Rattle.candidate_ir.specs.declared.ir.unify.RightSide.TheVariants as S
-use Rattle.candidate_ir.specs.declared.decl.contents.ImplId.{ImplId}
-use Rattle.candidate_ir.specs.declared.decl.contents.ImplPolarity.{ImplPolarity}
-use Rattle.candidate_ir.specs.declared.decl.contents.ImplPolarity.TheVariants as I
-use Rattle.candidate_ir.specs.Syntax.Trees.{Forest, Tree}
-use Rattle.candidate_ir.specs.Declarations.Context.{parameter_kind}
-use Rattle.candidate_ir.specs.Declarations.Contents.{Impl}
-use Rattle.candidate_ir.specs.Unification.Unify.{may_unify}
-use Rattle.candidate_ir.specs.Syntax.Words.{args_forest, clause_tree}
-use Rattle.candidate_ir.specs.Declarations.Worlds.{Reference}
+use Rattle.ir_trees.specs.declared.ir.kinds.PredicatePolarity.{PredicatePolarity}
+use Rattle.ir_trees.specs.declared.ir.kinds.PredicatePolarity.TheVariants as P
+use Rattle.ir_trees.specs.declared.ir.unify.RightSide.TheVariants as S
+use Rattle.ir_trees.specs.declared.decl.contents.ImplId.{ImplId}
+use Rattle.ir_trees.specs.declared.decl.contents.ImplPolarity.{ImplPolarity}
+use Rattle.ir_trees.specs.declared.decl.contents.ImplPolarity.TheVariants as I
+use Rattle.ir_trees.specs.Syntax.Trees.{Forest, Tree}
+use Rattle.ir_trees.specs.Declarations.Context.{parameter_kind}
+use Rattle.ir_trees.specs.Declarations.Contents.{Impl}
+use Rattle.ir_trees.specs.Unification.Unify.{may_unify}
+use Rattle.ir_trees.specs.Syntax.Words.{args_forest, clause_tree}
+use Rattle.ir_trees.specs.Declarations.Worlds.{Reference}
 use Rattle.candidate_eval.specs.declared.eval.mode.TypingMode.{TypingMode}
 use Rattle.candidate_eval.specs.declared.eval.mode.TypingMode.TheVariants.{Coherence}
 use Rattle.candidate_eval.specs.declared.eval.source.CandidateSource.TheVariants as Source

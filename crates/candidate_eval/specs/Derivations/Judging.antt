@@ -1,17 +1,17 @@
 -- What a judge answers to a rule: one interpreter for all rules.
 use Rattle.std.specs.Prelude.{suc, Bool, true, false, Option, Some, None, List, [], ◌∷◌, ◌++◌, if◌then◌else◌}
 use Rattle.std.specs.List.{filter}
-use Rattle.candidate_ir.specs.declared.ir.heads.Head.{Head}
-use Rattle.candidate_ir.specs.declared.ir.heads.Head.TheVariants as H
-use Rattle.candidate_ir.specs.declared.ir.kinds.RegionKind.TheVariants as R
-use Rattle.candidate_ir.specs.declared.ir.kinds.GoalSource.{GoalSource}
-use Rattle.candidate_ir.specs.declared.ir.unify.RightSide.TheVariants as S
-use Rattle.candidate_ir.specs.declared.ir.stop.Stop.{Stop}
-use Rattle.candidate_ir.specs.Syntax.Trees.{Kind, Forest, none, Tree, join}
-use Rattle.candidate_ir.specs.Instantiation.Folding.{substituted, substituted_tree}
-use Rattle.candidate_ir.specs.Unification.Substitutions.{alone}
-use Rattle.candidate_ir.specs.Unification.Unify.{may_unify}
-use Rattle.candidate_ir.specs.Declarations.Worlds.{Reference}
+use Rattle.ir_trees.specs.declared.ir.heads.Head.{Head}
+use Rattle.ir_trees.specs.declared.ir.heads.Head.TheVariants as H
+use Rattle.ir_trees.specs.declared.ir.kinds.RegionKind.TheVariants as R
+use Rattle.ir_trees.specs.declared.ir.kinds.GoalSource.{GoalSource}
+use Rattle.ir_trees.specs.declared.ir.unify.RightSide.TheVariants as S
+use Rattle.ir_trees.specs.declared.ir.stop.Stop.{Stop}
+use Rattle.ir_trees.specs.Syntax.Trees.{Kind, Forest, none, Tree, join}
+use Rattle.ir_trees.specs.Instantiation.Folding.{substituted, substituted_tree}
+use Rattle.ir_trees.specs.Unification.Substitutions.{alone}
+use Rattle.ir_trees.specs.Unification.Unify.{may_unify}
+use Rattle.ir_trees.specs.Declarations.Worlds.{Reference}
 use Rattle.candidate_eval.specs.declared.eval.source.CandidateSource.{CandidateSource}
 use Rattle.candidate_eval.specs.declared.eval.source.CandidateSource.TheVariants.{ParamEnv}
 use Rattle.candidate_eval.specs.declared.eval.source.ParamEnvSource.TheVariants.{NonGlobal, Global}

@@ -1,8 +1,8 @@
 -- Which variables trees and rules mention.
 use Rattle.std.specs.Prelude.{◌≡◌, ℕ, Bool, false, nat_le, Option, Some, None, List, [], ◌∷◌}
-use Rattle.candidate_ir.specs.declared.ir.heads.Head.{Head}
-use Rattle.candidate_ir.specs.Syntax.Trees.{Forest, holds, variable_number}
-use Rattle.candidate_ir.specs.Unification.Substitutions.{alone}
+use Rattle.ir_trees.specs.declared.ir.heads.Head.{Head}
+use Rattle.ir_trees.specs.Syntax.Trees.{Forest, holds, variable_number}
+use Rattle.ir_trees.specs.Unification.Substitutions.{alone}
 use Rattle.candidate_eval.specs.Derivations.Rules.{Match, Step, fresh, enter, equate, quick, add, settle, pick, still_general, unknowable, Ending, ask, characterise, Rule}
 
 abbrev pub is_at_least : ℕ → Option ℕ → Bool

@@ -1,18 +1,18 @@
 -- Clauses under their binders, opened by names of a rule. The parameter number k is the rule's variable number k, of whatever kind that
 -- is; what is put into the rule's trees puts it in.
 use Rattle.std.specs.Prelude.{ℕ, zero, suc, ◌+◌, ◌==◌, nat_lt, Option, Some, None, List, [], ◌∷◌, slice_get, if◌then◌else◌}
-use Rattle.candidate_ir.specs.declared.ir.heads.Head.{Head}
-use Rattle.candidate_ir.specs.declared.ir.heads.Head.TheVariants as H
-use Rattle.candidate_ir.specs.declared.ir.heads.ConstHead.TheVariants as C
-use Rattle.candidate_ir.specs.declared.ir.heads.PartHead.TheVariants as P
-use Rattle.candidate_ir.specs.declared.ir.kinds.BoundVar.{BoundVar}
-use Rattle.candidate_ir.specs.declared.ir.kinds.RegionKind.TheVariants as R
-use Rattle.candidate_ir.specs.declared.ir.kinds.VarKind.{VarKind}
-use Rattle.candidate_ir.specs.declared.ir.kinds.VarKind.TheVariants as V
-use Rattle.candidate_ir.specs.Syntax.Trees.{Kind, Forest, tree, none, Tree}
-use Rattle.candidate_ir.specs.Instantiation.Folding.{fold, fold_tree, leaf}
-use Rattle.candidate_ir.specs.Instantiation.Opening.{is_of, error_of, bound_head, nearer}
-use Rattle.candidate_ir.specs.Hierarchy.Supers.{after_first}
+use Rattle.ir_trees.specs.declared.ir.heads.Head.{Head}
+use Rattle.ir_trees.specs.declared.ir.heads.Head.TheVariants as H
+use Rattle.ir_trees.specs.declared.ir.heads.ConstHead.TheVariants as C
+use Rattle.ir_trees.specs.declared.ir.heads.PartHead.TheVariants as P
+use Rattle.ir_trees.specs.declared.ir.kinds.BoundVar.{BoundVar}
+use Rattle.ir_trees.specs.declared.ir.kinds.RegionKind.TheVariants as R
+use Rattle.ir_trees.specs.declared.ir.kinds.VarKind.{VarKind}
+use Rattle.ir_trees.specs.declared.ir.kinds.VarKind.TheVariants as V
+use Rattle.ir_trees.specs.Syntax.Trees.{Kind, Forest, tree, none, Tree}
+use Rattle.ir_trees.specs.Instantiation.Folding.{fold, fold_tree, leaf}
+use Rattle.ir_trees.specs.Instantiation.Opening.{is_of, error_of, bound_head, nearer}
+use Rattle.ir_trees.specs.Hierarchy.Supers.{after_first}
 use Rattle.candidate_eval.specs.Derivations.Characterization.{bound_kinds}
 
 -- What stands for a variable of the binder: its name, counted from the first number on, where it is of that kind; else, and where there is

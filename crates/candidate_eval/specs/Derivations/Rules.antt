@@ -2,12 +2,12 @@
 -- So an impl's header and clauses stand in a rule as they were declared: the impl's parameters are its first variables. A goal
 -- and its environment hold no parameters.
 use Rattle.std.specs.Prelude.{ℕ, suc, Bool, List, [], ◌∷◌, map}
-use Rattle.candidate_ir.specs.declared.ir.heads.Head.{Head}
-use Rattle.candidate_ir.specs.declared.ir.heads.Head.TheVariants as H
-use Rattle.candidate_ir.specs.declared.ir.kinds.GoalSource.{GoalSource}
-use Rattle.candidate_ir.specs.declared.ir.kinds.GoalSource.TheVariants as G
-use Rattle.candidate_ir.specs.Syntax.Trees.{Kind, Forest, none, tree, Tree}
-use Rattle.candidate_ir.specs.Declarations.Worlds.{Reference, kinds_of}
+use Rattle.ir_trees.specs.declared.ir.heads.Head.{Head}
+use Rattle.ir_trees.specs.declared.ir.heads.Head.TheVariants as H
+use Rattle.ir_trees.specs.declared.ir.kinds.GoalSource.{GoalSource}
+use Rattle.ir_trees.specs.declared.ir.kinds.GoalSource.TheVariants as G
+use Rattle.ir_trees.specs.Syntax.Trees.{Kind, Forest, none, tree, Tree}
+use Rattle.ir_trees.specs.Declarations.Worlds.{Reference, kinds_of}
 use Rattle.candidate_eval.specs.declared.eval.source.CandidateSource.{CandidateSource}
 use Rattle.candidate_eval.specs.Outcomes.Certainties.{Certainty}
 use Rattle.candidate_eval.specs.Judges.States.{Env}

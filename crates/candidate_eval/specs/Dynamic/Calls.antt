@@ -1,17 +1,17 @@
 -- What a call about an object's bounds says by the definitions: over its numbers, in an environment, by what the evaluator shows before it
 -- (`V`) and after it (`W`).
 use Rattle.std.specs.Prelude.{Bool, Option, List, map}
-use Rattle.candidate_ir.specs.declared.ir.kinds.AliasTerm.{AliasTerm}
-use Rattle.candidate_ir.specs.declared.ir.kinds.Args.{Args}
-use Rattle.candidate_ir.specs.declared.ir.kinds.Binder.{Binder}
-use Rattle.candidate_ir.specs.declared.ir.kinds.Clause.{Clause}
-use Rattle.candidate_ir.specs.declared.ir.kinds.Goal.{Goal as OfNumbers}
-use Rattle.candidate_ir.specs.declared.ir.kinds.ParamEnv.{ParamEnv}
-use Rattle.candidate_ir.specs.declared.ir.kinds.Preds.{Preds}
-use Rattle.candidate_ir.specs.declared.ir.kinds.TraitRef.{TraitRef}
-use Rattle.candidate_ir.specs.declared.ir.kinds.Ty.{Ty}
-use Rattle.candidate_ir.specs.Syntax.Trees.{Forest, Tree}
-use Rattle.candidate_ir.specs.Syntax.Words.{args_forest, clause_kind_tree, clause_tree, env_forest, preds_forest, ty_tree}
+use Rattle.ir_trees.specs.declared.ir.kinds.AliasTerm.{AliasTerm}
+use Rattle.ir_trees.specs.declared.ir.kinds.Args.{Args}
+use Rattle.ir_trees.specs.declared.ir.kinds.Binder.{Binder}
+use Rattle.ir_trees.specs.declared.ir.kinds.Clause.{Clause}
+use Rattle.ir_trees.specs.declared.ir.kinds.Goal.{Goal as OfNumbers}
+use Rattle.ir_trees.specs.declared.ir.kinds.ParamEnv.{ParamEnv}
+use Rattle.ir_trees.specs.declared.ir.kinds.Preds.{Preds}
+use Rattle.ir_trees.specs.declared.ir.kinds.TraitRef.{TraitRef}
+use Rattle.ir_trees.specs.declared.ir.kinds.Ty.{Ty}
+use Rattle.ir_trees.specs.Syntax.Trees.{Forest, Tree}
+use Rattle.ir_trees.specs.Syntax.Words.{args_forest, clause_kind_tree, clause_tree, env_forest, preds_forest, ty_tree}
 use Rattle.candidate_eval.specs.Dynamic.ObjectRequirements.{AreAsked, AreUnknown, first_tree, fresh_arguments, reference_clause}
 use Rattle.candidate_eval.specs.Dynamic.Objects.{bound_equated, bound_matches, is_equated, projection_at, Projection, Tried, IsPicked, IsPickedAtOnce, IsAmbiguous}
 use Rattle.candidate_eval.specs.Dynamic.Replacing.{Picks, IsStuck, IsReplaced, AreReplaced, AreStuck, clauses_at, projections_at, types_at}

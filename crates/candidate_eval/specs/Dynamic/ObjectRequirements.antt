@@ -1,26 +1,26 @@
 -- What an object candidate asks for, besides that its trait reference fits.
 use Rattle.std.specs.Prelude.{◌≡◌, ℕ, Option, Some, None, List, map}
-use Rattle.candidate_ir.specs.declared.ir.heads.Head.{Head}
-use Rattle.candidate_ir.specs.declared.ir.heads.Head.TheVariants as H
-use Rattle.candidate_ir.specs.declared.ir.heads.PartHead.TheVariants as P
-use Rattle.candidate_ir.specs.declared.ir.heads.ClauseHead.TheVariants as Cl
-use Rattle.candidate_ir.specs.declared.ir.kinds.Binder.{Binder}
-use Rattle.candidate_ir.specs.declared.ir.kinds.Clause.{Clause}
-use Rattle.candidate_ir.specs.declared.ir.kinds.ClauseKind.{ClauseKind}
-use Rattle.candidate_ir.specs.declared.ir.kinds.ClauseKind.TheVariants as K
-use Rattle.candidate_ir.specs.declared.ir.kinds.Goal.{Goal as OfNumbers}
-use Rattle.candidate_ir.specs.declared.ir.kinds.ParamEnv.{ParamEnv}
-use Rattle.candidate_ir.specs.declared.ir.kinds.PredicatePolarity.{PredicatePolarity}
-use Rattle.candidate_ir.specs.declared.ir.kinds.PredicatePolarity.TheVariants as Polarity
-use Rattle.candidate_ir.specs.declared.ir.kinds.TraitId.{TraitId}
-use Rattle.candidate_ir.specs.declared.ir.kinds.TraitPredicate.{TraitPredicate}
-use Rattle.candidate_ir.specs.declared.ir.kinds.TraitRef.{TraitRef}
-use Rattle.candidate_ir.specs.declared.ir.kinds.Vars.{Vars}
-use Rattle.candidate_ir.specs.Declarations.Context.{Context}
-use Rattle.candidate_ir.specs.Instantiation.Folds.{node}
-use Rattle.candidate_ir.specs.Syntax.Nodes.{error_tree}
-use Rattle.candidate_ir.specs.Hierarchy.Supers.{after_first}
-use Rattle.candidate_ir.specs.Syntax.Trees.{Forest, none, tree, Tree}
+use Rattle.ir_trees.specs.declared.ir.heads.Head.{Head}
+use Rattle.ir_trees.specs.declared.ir.heads.Head.TheVariants as H
+use Rattle.ir_trees.specs.declared.ir.heads.PartHead.TheVariants as P
+use Rattle.ir_trees.specs.declared.ir.heads.ClauseHead.TheVariants as Cl
+use Rattle.ir_trees.specs.declared.ir.kinds.Binder.{Binder}
+use Rattle.ir_trees.specs.declared.ir.kinds.Clause.{Clause}
+use Rattle.ir_trees.specs.declared.ir.kinds.ClauseKind.{ClauseKind}
+use Rattle.ir_trees.specs.declared.ir.kinds.ClauseKind.TheVariants as K
+use Rattle.ir_trees.specs.declared.ir.kinds.Goal.{Goal as OfNumbers}
+use Rattle.ir_trees.specs.declared.ir.kinds.ParamEnv.{ParamEnv}
+use Rattle.ir_trees.specs.declared.ir.kinds.PredicatePolarity.{PredicatePolarity}
+use Rattle.ir_trees.specs.declared.ir.kinds.PredicatePolarity.TheVariants as Polarity
+use Rattle.ir_trees.specs.declared.ir.kinds.TraitId.{TraitId}
+use Rattle.ir_trees.specs.declared.ir.kinds.TraitPredicate.{TraitPredicate}
+use Rattle.ir_trees.specs.declared.ir.kinds.TraitRef.{TraitRef}
+use Rattle.ir_trees.specs.declared.ir.kinds.Vars.{Vars}
+use Rattle.ir_trees.specs.Declarations.Context.{Context}
+use Rattle.ir_trees.specs.Instantiation.Folds.{node}
+use Rattle.ir_trees.specs.Syntax.Nodes.{error_tree}
+use Rattle.ir_trees.specs.Hierarchy.Supers.{after_first}
+use Rattle.ir_trees.specs.Syntax.Trees.{Forest, none, tree, Tree}
 use Rattle.candidate_eval.specs.Dynamic.Objects.{fresh_instance, with_instance}
 use Rattle.candidate_eval.specs.Dynamic.ObjectRules.{IsAskedByRule, IsUnknownByRule}
 use Rattle.candidate_eval.specs.Dynamic.Replacing.{AreReplaced, AreStuck}

@@ -1,9 +1,9 @@
 -- What an object candidate asks for, as the data of a rule: a list of picks, of which the terms become the rule's next variables.
 use Rattle.std.specs.Prelude.{◌≡◌, ◌≤◌, ℕ, suc, ◌+◌, false, List, [], ◌∷◌, ◌++◌, map, length}
 use Rattle.std.specs.List.{All, filter, flat_map}
-use Rattle.candidate_ir.specs.Syntax.Binders.{escapes}
-use Rattle.candidate_ir.specs.Unification.Substitutions.{alone}
-use Rattle.candidate_ir.specs.Syntax.Trees.{Forest, Tree, count, holds, is_param, join}
+use Rattle.ir_trees.specs.Syntax.Binders.{escapes}
+use Rattle.ir_trees.specs.Unification.Substitutions.{alone}
+use Rattle.ir_trees.specs.Syntax.Trees.{Forest, Tree, count, holds, is_param, join}
 use Rattle.candidate_eval.specs.Outcomes.Certainties.{AMBIGUOUS}
 use Rattle.candidate_eval.specs.Derivations.Characterization.{bound_kinds}
 use Rattle.candidate_eval.specs.Derivations.Judging.{Place, comes_to, asked, put_in_tree, source_of}

@@ -1,19 +1,19 @@
 -- Projections of an object's own type in what it has to fulfil, and the terms that its bounds give in their place.
 use Rattle.std.specs.Prelude.{◌≡◌, ℕ, Bool, true, false, ◌&&◌, Option, Some, None, List, [], ◌∷◌, ◌++◌, map}
 use Rattle.std.specs.List.{list_any}
-use Rattle.candidate_ir.specs.declared.ir.heads.Head.{Head}
-use Rattle.candidate_ir.specs.declared.ir.heads.Head.TheVariants as H
-use Rattle.candidate_ir.specs.declared.ir.kinds.AliasKind.TheVariants as A
-use Rattle.candidate_ir.specs.declared.ir.kinds.AliasTerm.{AliasTerm}
-use Rattle.candidate_ir.specs.declared.ir.kinds.Clause.{Clause}
-use Rattle.candidate_ir.specs.Hierarchy.Elaboration.{same_tree}
-use Rattle.candidate_ir.specs.Instantiation.Folds.{node}
-use Rattle.candidate_ir.specs.Syntax.Trees.{Forest, none, tree, Tree}
-use Rattle.candidate_ir.specs.Syntax.Words.{IsArgs, clause_tree, ty_tree}
-use Rattle.candidate_ir.specs.declared.ir.kinds.Ty.{Ty}
-use Rattle.candidate_ir.specs.declared.ir.kinds.AliasTy.{AliasTy}
-use Rattle.candidate_ir.specs.declared.ir.kinds.TyKind.{TyKind}
-use Rattle.candidate_ir.specs.declared.ir.kinds.TyKind.TheVariants as K
+use Rattle.ir_trees.specs.declared.ir.heads.Head.{Head}
+use Rattle.ir_trees.specs.declared.ir.heads.Head.TheVariants as H
+use Rattle.ir_trees.specs.declared.ir.kinds.AliasKind.TheVariants as A
+use Rattle.ir_trees.specs.declared.ir.kinds.AliasTerm.{AliasTerm}
+use Rattle.ir_trees.specs.declared.ir.kinds.Clause.{Clause}
+use Rattle.ir_trees.specs.Hierarchy.Elaboration.{same_tree}
+use Rattle.ir_trees.specs.Instantiation.Folds.{node}
+use Rattle.ir_trees.specs.Syntax.Trees.{Forest, none, tree, Tree}
+use Rattle.ir_trees.specs.Syntax.Words.{IsArgs, clause_tree, ty_tree}
+use Rattle.ir_trees.specs.declared.ir.kinds.Ty.{Ty}
+use Rattle.ir_trees.specs.declared.ir.kinds.AliasTy.{AliasTy}
+use Rattle.ir_trees.specs.declared.ir.kinds.TyKind.{TyKind}
+use Rattle.ir_trees.specs.declared.ir.kinds.TyKind.TheVariants as K
 use Rattle.candidate_eval.specs.Dynamic.Objects.{Projection, is_about, projection_at, IsPicked, IsAmbiguous}
 use Rattle.candidate_eval.specs.Judges.States.{Env, State, Judge}
 

@@ -1,28 +1,28 @@
 -- What a type has to fulfil so as to be an object of a trait, and what the bounds of the object's type say of it as clauses.
 use Rattle.std.specs.Prelude.{◌≡◌, ℕ, Bool, true, false, not, ◌&&◌, Option, Some, List, [], ◌∷◌, ◌++◌, map, if◌then◌else◌}
 use Rattle.std.specs.List.{filter, flat_map}
-use Rattle.candidate_ir.specs.declared.ir.heads.Head.{Head}
-use Rattle.candidate_ir.specs.declared.ir.heads.Head.TheVariants as H
-use Rattle.candidate_ir.specs.declared.ir.heads.PartHead.TheVariants as P
-use Rattle.candidate_ir.specs.declared.ir.heads.PredHead.TheVariants as PH
-use Rattle.candidate_ir.specs.declared.ir.heads.ClauseHead.TheVariants as Cl
-use Rattle.candidate_ir.specs.declared.ir.kinds.Args.{Args}
-use Rattle.candidate_ir.specs.declared.ir.kinds.AssocId.{AssocId}
-use Rattle.candidate_ir.specs.declared.ir.kinds.Binder.{Binder}
-use Rattle.candidate_ir.specs.declared.ir.kinds.Clause.{Clause}
-use Rattle.candidate_ir.specs.declared.ir.kinds.ExistentialPredicate.{ExistentialPredicate}
-use Rattle.candidate_ir.specs.declared.ir.kinds.ExistentialPredicate.TheVariants as E
-use Rattle.candidate_ir.specs.declared.ir.kinds.ExistentialProjection.{ExistentialProjection}
-use Rattle.candidate_ir.specs.declared.decl.definition.AssocKind.{AssocKind}
-use Rattle.candidate_ir.specs.declared.decl.definition.AssocKind.TheVariants as A
-use Rattle.candidate_ir.specs.Syntax.Trees.{Forest, none, tree, Tree, tree_holds}
-use Rattle.candidate_ir.specs.Declarations.Context.{Context}
-use Rattle.candidate_ir.specs.Declarations.Declaring.{bounds_at, trait_at}
-use Rattle.candidate_ir.specs.Hierarchy.Elaboration.{IsElaboration, first_children, super_clauses}
-use Rattle.candidate_ir.specs.Instantiation.Folding.{lacks_argument, substituted_tree}
-use Rattle.candidate_ir.specs.Declarations.Lookups.{assoc_kind, definition, maybe, requires_sized_self}
-use Rattle.candidate_ir.specs.Hierarchy.Supers.{after_first, supers_at}
-use Rattle.candidate_ir.specs.Syntax.Words.{args_forest, clause_tree}
+use Rattle.ir_trees.specs.declared.ir.heads.Head.{Head}
+use Rattle.ir_trees.specs.declared.ir.heads.Head.TheVariants as H
+use Rattle.ir_trees.specs.declared.ir.heads.PartHead.TheVariants as P
+use Rattle.ir_trees.specs.declared.ir.heads.PredHead.TheVariants as PH
+use Rattle.ir_trees.specs.declared.ir.heads.ClauseHead.TheVariants as Cl
+use Rattle.ir_trees.specs.declared.ir.kinds.Args.{Args}
+use Rattle.ir_trees.specs.declared.ir.kinds.AssocId.{AssocId}
+use Rattle.ir_trees.specs.declared.ir.kinds.Binder.{Binder}
+use Rattle.ir_trees.specs.declared.ir.kinds.Clause.{Clause}
+use Rattle.ir_trees.specs.declared.ir.kinds.ExistentialPredicate.{ExistentialPredicate}
+use Rattle.ir_trees.specs.declared.ir.kinds.ExistentialPredicate.TheVariants as E
+use Rattle.ir_trees.specs.declared.ir.kinds.ExistentialProjection.{ExistentialProjection}
+use Rattle.ir_trees.specs.declared.decl.definition.AssocKind.{AssocKind}
+use Rattle.ir_trees.specs.declared.decl.definition.AssocKind.TheVariants as A
+use Rattle.ir_trees.specs.Syntax.Trees.{Forest, none, tree, Tree, tree_holds}
+use Rattle.ir_trees.specs.Declarations.Context.{Context}
+use Rattle.ir_trees.specs.Declarations.Declaring.{bounds_at, trait_at}
+use Rattle.ir_trees.specs.Hierarchy.Elaboration.{IsElaboration, first_children, super_clauses}
+use Rattle.ir_trees.specs.Instantiation.Folding.{lacks_argument, substituted_tree}
+use Rattle.ir_trees.specs.Declarations.Lookups.{assoc_kind, definition, maybe, requires_sized_self}
+use Rattle.ir_trees.specs.Hierarchy.Supers.{after_first, supers_at}
+use Rattle.ir_trees.specs.Syntax.Words.{args_forest, clause_tree}
 use Rattle.candidate_eval.specs.declared.objects.required.Declared.{Declared}
 use Rattle.candidate_eval.specs.declared.objects.required.Declared.TheVariants as D
 

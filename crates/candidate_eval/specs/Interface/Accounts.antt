@@ -1,11 +1,11 @@
 -- Why an evaluator stopped: its own account, and what calls over it say of their stops. All that they name lies between the evaluator that a
 -- call is given, the first, and the one that it leaves, the last.
 use Rattle.std.specs.Prelude.{◌≡◌, ℕ, List, length}
-use Rattle.candidate_ir.specs.declared.ir.stop.Stop.{Stop}
-use Rattle.candidate_ir.specs.declared.ir.stop.Stop.TheVariants.{Memory}
-use Rattle.candidate_ir.specs.Declarations.Context.{Context, Grows}
-use Rattle.candidate_ir.specs.Instantiation.Folding.{IsSubstStop}
-use Rattle.candidate_ir.specs.Syntax.Trees.{Kind, Forest, Tree}
+use Rattle.ir_trees.specs.declared.ir.stop.Stop.{Stop}
+use Rattle.ir_trees.specs.declared.ir.stop.Stop.TheVariants.{Memory}
+use Rattle.ir_trees.specs.Declarations.Context.{Context, Grows}
+use Rattle.ir_trees.specs.Instantiation.Folding.{IsSubstStop}
+use Rattle.ir_trees.specs.Syntax.Trees.{Kind, Forest, Tree}
 use Rattle.candidate_eval.specs.declared.eval.context.ProbeKind.{ProbeKind}
 use Rattle.candidate_eval.specs.declared.eval.refusal.NoSolutionOrStop.{NoSolutionOrStop}
 use Rattle.candidate_eval.specs.declared.eval.refusal.NoSolutionOrStop.TheVariants as N

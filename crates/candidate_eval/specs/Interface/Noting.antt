@@ -1,9 +1,9 @@
 -- Why what stands below a node wasn't noted in a list.
 use Rattle.std.specs.Prelude.{◌<◌, ◌≤◌, ℕ, length, List}
-use Rattle.candidate_ir.specs.declared.ir.stop.Stop.{Stop}
-use Rattle.candidate_ir.specs.declared.ir.stop.Stop.TheVariants.{Memory, NodesFull}
-use Rattle.candidate_ir.specs.Syntax.Nodes.{tree_at}
-use Rattle.candidate_ir.specs.Syntax.Trees.{Tree, count}
+use Rattle.ir_trees.specs.declared.ir.stop.Stop.{Stop}
+use Rattle.ir_trees.specs.declared.ir.stop.Stop.TheVariants.{Memory, NodesFull}
+use Rattle.ir_trees.specs.Syntax.Nodes.{tree_at}
+use Rattle.ir_trees.specs.Syntax.Trees.{Tree, count}
 
 -- A node of the context has 2^64 - 1 children or more: they can't be counted.
 pub record HasWideNode (ts : List Tree) : Type 0 where

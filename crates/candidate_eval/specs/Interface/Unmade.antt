@@ -1,17 +1,17 @@
 -- Why nodes weren't made of the trees of a context.
 use Rattle.std.specs.Prelude.{◌<◌, ◌≤◌, ℕ, List, length, map}
-use Rattle.candidate_ir.specs.declared.ir.heads.Head.{Head}
-use Rattle.candidate_ir.specs.declared.ir.stop.Stop.{Stop}
-use Rattle.candidate_ir.specs.declared.ir.stop.Stop.TheVariants.{Memory, NodesFull}
-use Rattle.candidate_ir.specs.declared.ir.kinds.Clause.{Clause}
-use Rattle.candidate_ir.specs.Declarations.Context.{Context, Grows}
-use Rattle.candidate_ir.specs.Hierarchy.Elaboration.{IsElaborationStop, super_clauses}
-use Rattle.candidate_ir.specs.Instantiation.Folding.{IsSubstStop, substituted}
-use Rattle.candidate_ir.specs.Instantiation.Opening.{opened, opened_clause}
-use Rattle.candidate_ir.specs.Syntax.Nodes.{tallest, tree_at}
-use Rattle.candidate_ir.specs.Syntax.Trees.{Forest, Kind, none, row, tree, Tree}
-use Rattle.candidate_ir.specs.Syntax.Words.{clause_tree}
-use Rattle.candidate_ir.specs.Unification.Substitutions.{alone, row_of}
+use Rattle.ir_trees.specs.declared.ir.heads.Head.{Head}
+use Rattle.ir_trees.specs.declared.ir.stop.Stop.{Stop}
+use Rattle.ir_trees.specs.declared.ir.stop.Stop.TheVariants.{Memory, NodesFull}
+use Rattle.ir_trees.specs.declared.ir.kinds.Clause.{Clause}
+use Rattle.ir_trees.specs.Declarations.Context.{Context, Grows}
+use Rattle.ir_trees.specs.Hierarchy.Elaboration.{IsElaborationStop, super_clauses}
+use Rattle.ir_trees.specs.Instantiation.Folding.{IsSubstStop, substituted}
+use Rattle.ir_trees.specs.Instantiation.Opening.{opened, opened_clause}
+use Rattle.ir_trees.specs.Syntax.Nodes.{tallest, tree_at}
+use Rattle.ir_trees.specs.Syntax.Trees.{Forest, Kind, none, row, tree, Tree}
+use Rattle.ir_trees.specs.Syntax.Words.{clause_tree}
+use Rattle.ir_trees.specs.Unification.Substitutions.{alone, row_of}
 use Rattle.candidate_eval.specs.declared.structural.Column.{Column}
 use Rattle.candidate_eval.specs.Builtins.Callable.{IsCallStop, IsConstCallStop}
 use Rattle.candidate_eval.specs.Builtins.Destruct.{IsConditionsStop, destruct_conditions}

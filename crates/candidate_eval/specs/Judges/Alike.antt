@@ -1,8 +1,8 @@
 -- States that differ only in what nothing mentions, and what a judge answers at them.
 use Rattle.std.specs.Prelude.{◌≡◌, ℕ, false, Option, Some, None, List, [], length, slice_get}
-use Rattle.candidate_ir.specs.Syntax.Trees.{Forest, Tree}
-use Rattle.candidate_ir.specs.Unification.Substitutions.{alone}
-use Rattle.candidate_ir.specs.Declarations.Worlds.{kinds_of}
+use Rattle.ir_trees.specs.Syntax.Trees.{Forest, Tree}
+use Rattle.ir_trees.specs.Unification.Substitutions.{alone}
+use Rattle.ir_trees.specs.Declarations.Worlds.{kinds_of}
 use Rattle.candidate_eval.specs.Judges.States.{Env, State, VariableInfo, Judge, with_pending}
 use Rattle.candidate_eval.specs.Derivations.Rules.{Step, Ending}
 use Rattle.candidate_eval.specs.Derivations.Judging.{Place, Normal, normal_at, is_at, run, comes_to}

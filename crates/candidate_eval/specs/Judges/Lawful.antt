@@ -1,8 +1,8 @@
 -- The laws of an evaluator. They speak of its judge.
 use Rattle.std.specs.Prelude.{◌≡◌, ◌≤◌, ℕ, Bool, true, false, Some, None, List, [], length}
 use Rattle.std.specs.List.{All}
-use Rattle.candidate_ir.specs.Syntax.Trees.{Kind, TypeKind, ConstantKind, Forest, Tree, kind_of, erase, holds, is_alias, is_error, is_param}
-use Rattle.candidate_ir.specs.Unification.Substitutions.{Substitution, alone, apply}
+use Rattle.ir_trees.specs.Syntax.Trees.{Kind, TypeKind, ConstantKind, Forest, Tree, kind_of, erase, holds, is_alias, is_error, is_param}
+use Rattle.ir_trees.specs.Unification.Substitutions.{Substitution, alone, apply}
 use Rattle.candidate_eval.specs.Outcomes.Certainties.{Certainty, Yes}
 use Rattle.candidate_eval.specs.Outcomes.Responses.{Response}
 use Rattle.candidate_eval.specs.Judges.States.{Env, State, Goal, Pending, Judge, VariableInfo, resolved}

@@ -1,20 +1,20 @@
 -- The state that an evaluator shows, and its judge: what it answers there.
 use Rattle.std.specs.Prelude.{ℕ, suc, Bool, true, false, Option, Some, None, List, [], ◌∷◌, ◌++◌, length, slice_get, unwrap_or, if◌then◌else◌}
-use Rattle.candidate_ir.specs.declared.ir.heads.Head.{Head}
-use Rattle.candidate_ir.specs.declared.ir.heads.Head.TheVariants as H
-use Rattle.candidate_ir.specs.declared.ir.heads.ConstHead.TheVariants as C
-use Rattle.candidate_ir.specs.declared.ir.heads.VariableSort.TheVariants as V
-use Rattle.candidate_ir.specs.declared.ir.kinds.RegionKind.TheVariants as R
-use Rattle.candidate_ir.specs.declared.ir.kinds.GoalSource.{GoalSource}
-use Rattle.candidate_ir.specs.Syntax.Trees.{Kind, ConstantKind, RegionKind, Forest, none, tree, Tree}
-use Rattle.candidate_ir.specs.Instantiation.Folding.{fold, fold_tree, leaf}
-use Rattle.candidate_ir.specs.Unification.Substitutions.{same_sort}
-use Rattle.candidate_ir.specs.Declarations.Worlds.{World}
+use Rattle.ir_trees.specs.declared.ir.heads.Head.{Head}
+use Rattle.ir_trees.specs.declared.ir.heads.Head.TheVariants as H
+use Rattle.ir_trees.specs.declared.ir.heads.ConstHead.TheVariants as C
+use Rattle.ir_trees.specs.declared.ir.heads.VariableSort.TheVariants as V
+use Rattle.ir_trees.specs.declared.ir.kinds.RegionKind.TheVariants as R
+use Rattle.ir_trees.specs.declared.ir.kinds.GoalSource.{GoalSource}
+use Rattle.ir_trees.specs.Syntax.Trees.{Kind, ConstantKind, RegionKind, Forest, none, tree, Tree}
+use Rattle.ir_trees.specs.Instantiation.Folding.{fold, fold_tree, leaf}
+use Rattle.ir_trees.specs.Unification.Substitutions.{same_sort}
+use Rattle.ir_trees.specs.Declarations.Worlds.{World}
 use Rattle.candidate_eval.specs.declared.eval.mode.TypingMode.{TypingMode}
 use Rattle.candidate_eval.specs.declared.eval.variable.VariableKind.{VariableKind}
 use Rattle.candidate_eval.specs.declared.eval.variable.VariableKind.TheVariants.{Term, Region}
 use Rattle.candidate_eval.specs.Outcomes.Certainties.{Certainty}
-pub use Rattle.candidate_ir.specs.declared.decl.limits.Limits.{Limits}
+pub use Rattle.ir_trees.specs.declared.decl.limits.Limits.{Limits}
 use Rattle.candidate_eval.specs.Outcomes.Responses.{Response}
 
 -- The clauses that are taken as given, in their order.

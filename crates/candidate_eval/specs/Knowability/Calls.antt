@@ -2,15 +2,15 @@
 use Rattle.std.specs.Prelude.{◌≡◌, ℕ, false, Result, Ok}
 use Rattle.std.specs.Fn.{Mut}
 use Rattle.std.specs.Borrow.{MutBor}
-use Rattle.candidate_ir.specs.declared.ir.kinds.Ty.{Ty}
-use Rattle.candidate_ir.specs.declared.ir.kinds.TraitRef.{TraitRef}
+use Rattle.ir_trees.specs.declared.ir.kinds.Ty.{Ty}
+use Rattle.ir_trees.specs.declared.ir.kinds.TraitRef.{TraitRef}
 use Rattle.candidate_eval.specs.declared.coherence.NormalizeErr.{NormalizeErr}
 use Rattle.candidate_eval.specs.Knowability.Answers.{CheckResult, KnownResult, IsAnswer, IsKnowledge, answer_of}
 use Rattle.candidate_eval.specs.Knowability.Normalizer.{IsTold, IsToldAnswer, Description, IsFunction, shown}
-use Rattle.candidate_ir.specs.Syntax.Trees.{Tree, holds, is_alias, is_param}
-use Rattle.candidate_ir.specs.Declarations.Context.{Context, world}
-use Rattle.candidate_ir.specs.Syntax.Words.{args_forest, ty_tree}
-use Rattle.candidate_ir.specs.Declarations.References.{reference_of}
+use Rattle.ir_trees.specs.Syntax.Trees.{Tree, holds, is_alias, is_param}
+use Rattle.ir_trees.specs.Declarations.Context.{Context, world}
+use Rattle.ir_trees.specs.Syntax.Words.{args_forest, ty_tree}
+use Rattle.ir_trees.specs.Declarations.References.{reference_of}
 use Rattle.candidate_eval.specs.Knowability.Orphan.{InCrate, Local, Remote, Proper, Compat, view, Checked, Answer, Passes, orphan_answer, Knowability, knowability, plain_check, plain_knowability, local_or_fundamental, IsPlainForest}
 use Rattle.candidate_eval.specs.Knowability.Laws.{IsPlainCall, NoForeignHeader, NoUnnamedHeader, NoCoveredHeader, IsDecidedByGeneral, HasDownstream}
 

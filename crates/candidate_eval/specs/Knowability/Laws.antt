@@ -2,14 +2,14 @@
 use Rattle.std.specs.Prelude.{◌≡◌, ℕ, true, false, Option, Some, List, [], ◌∷◌, Result}
 use Rattle.std.specs.Fn.{Mut}
 use Rattle.std.specs.Borrow.{MutBor}
-use Rattle.candidate_ir.specs.declared.ir.kinds.Ty.{Ty}
-use Rattle.candidate_ir.specs.declared.ir.kinds.TraitRef.{TraitRef}
-use Rattle.candidate_ir.specs.Declarations.Context.{Context}
-use Rattle.candidate_ir.specs.Syntax.Words.{args_forest}
-use Rattle.candidate_ir.specs.Syntax.Trees.{Forest, none, tree, Tree, is_type}
-use Rattle.candidate_ir.specs.Declarations.Worlds.{IsOf, World, Reference, Extends}
+use Rattle.ir_trees.specs.declared.ir.kinds.Ty.{Ty}
+use Rattle.ir_trees.specs.declared.ir.kinds.TraitRef.{TraitRef}
+use Rattle.ir_trees.specs.Declarations.Context.{Context}
+use Rattle.ir_trees.specs.Syntax.Words.{args_forest}
+use Rattle.ir_trees.specs.Syntax.Trees.{Forest, none, tree, Tree, is_type}
+use Rattle.ir_trees.specs.Declarations.Worlds.{IsOf, World, Reference, Extends}
 use Rattle.candidate_eval.specs.declared.coherence.NormalizeErr.{NormalizeErr}
-use Rattle.candidate_ir.specs.Unification.Substitutions.{Universes, Overlap}
+use Rattle.ir_trees.specs.Unification.Substitutions.{Universes, Overlap}
 use Rattle.candidate_eval.specs.Knowability.Normalizer.{IsPlain}
 use Rattle.candidate_eval.specs.Knowability.Orphan.{MayWrite, IsCovered, View, InCrate, Local, Proper, Compat, Remote, Passes, NonLocalInput, UncoveredInput, Entry, orphan_answer, Step, Viewed, is_general, remote_decision, names}
 

@@ -1,22 +1,22 @@
 -- The orphan check and knowability, by the frontier of a reference.
 use Rattle.std.specs.Prelude.{◌≡◌, ℕ, suc, zero, Bool, true, false, Option, Some, None, List, [], ◌∷◌, ◌++◌, ◌||◌, if◌then◌else◌}
-use Rattle.candidate_ir.specs.Syntax.Trees.{Forest, none, tree, Tree, is_type, is_alias, is_error, is_loose, holds}
-use Rattle.candidate_ir.specs.Declarations.Worlds.{World, Reference}
-pub use Rattle.candidate_ir.specs.Declarations.Names.{CrateTest, passes_test, crate_passes, is_local, fundamental_flag, is_fundamental, names_here, names}
-pub use Rattle.candidate_ir.specs.Unification.Substitutions.{is_variable}
-use Rattle.candidate_ir.specs.declared.ir.stop.Stop.{Stop}
-use Rattle.candidate_ir.specs.declared.ir.stop.Stop.TheVariants.{WalkDepth, Unnameable}
+use Rattle.ir_trees.specs.Syntax.Trees.{Forest, none, tree, Tree, is_type, is_alias, is_error, is_loose, holds}
+use Rattle.ir_trees.specs.Declarations.Worlds.{World, Reference}
+pub use Rattle.ir_trees.specs.Declarations.Names.{CrateTest, passes_test, crate_passes, is_local, fundamental_flag, is_fundamental, names_here, names}
+pub use Rattle.ir_trees.specs.Unification.Substitutions.{is_variable}
+use Rattle.ir_trees.specs.declared.ir.stop.Stop.{Stop}
+use Rattle.ir_trees.specs.declared.ir.stop.Stop.TheVariants.{WalkDepth, Unnameable}
 pub use Rattle.candidate_eval.specs.declared.coherence.InCrate.{InCrate}
 pub use Rattle.candidate_eval.specs.declared.coherence.InCrate.TheVariants.{Local, Remote}
 pub use Rattle.candidate_eval.specs.declared.coherence.OrphanCheckMode.TheVariants.{Proper, Compat}
-use Rattle.candidate_ir.specs.declared.ir.heads.Head.{Head}
-use Rattle.candidate_ir.specs.declared.ir.heads.VariableSort.{VariableSort}
-use Rattle.candidate_ir.specs.declared.ir.kinds.AliasKind.{AliasKind}
-use Rattle.candidate_ir.specs.declared.ir.heads.PartHead.TheVariants as P
-use Rattle.candidate_ir.specs.declared.ir.heads.PredHead.TheVariants as PH
-use Rattle.candidate_ir.specs.declared.ir.heads.Head.TheVariants as H
-use Rattle.candidate_ir.specs.declared.ir.heads.VariableSort.TheVariants as V
-use Rattle.candidate_ir.specs.declared.ir.kinds.AliasKind.TheVariants as AK
+use Rattle.ir_trees.specs.declared.ir.heads.Head.{Head}
+use Rattle.ir_trees.specs.declared.ir.heads.VariableSort.{VariableSort}
+use Rattle.ir_trees.specs.declared.ir.kinds.AliasKind.{AliasKind}
+use Rattle.ir_trees.specs.declared.ir.heads.PartHead.TheVariants as P
+use Rattle.ir_trees.specs.declared.ir.heads.PredHead.TheVariants as PH
+use Rattle.ir_trees.specs.declared.ir.heads.Head.TheVariants as H
+use Rattle.ir_trees.specs.declared.ir.heads.VariableSort.TheVariants as V
+use Rattle.ir_trees.specs.declared.ir.kinds.AliasKind.TheVariants as AK
 
 -- Why a check is broken off.
 pub data Fault (E : Type 0) : Type 0 where

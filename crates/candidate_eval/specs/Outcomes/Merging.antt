@@ -2,7 +2,7 @@
 use Rattle.std.specs.Prelude.{ℕ, suc, Bool, true, false, ◌&&◌, Option, Some, None, List, [], ◌∷◌, slice_get, if◌then◌else◌}
 use Rattle.std.specs.Cmp.Lexicographic.{pointwise}
 use Rattle.std.specs.List.{list_all}
-use Rattle.candidate_ir.specs.Hierarchy.Elaboration.{same_forest, same_tree}
+use Rattle.ir_trees.specs.Hierarchy.Elaboration.{same_forest, same_tree}
 use Rattle.candidate_eval.specs.contracts.eval.certainty.CertaintyPartialEq.TheImpl as certainty
 use Rattle.candidate_eval.specs.contracts.eval.variable.CanonicalVarPartialEq.TheImpl as variable
 use Rattle.candidate_eval.specs.declared.eval.response.MergeCandidateInfo.{MergeCandidateInfo}

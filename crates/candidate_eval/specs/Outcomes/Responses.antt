@@ -1,6 +1,6 @@
 -- What an evaluator answers to a goal, and what that says of the variables.
 use Rattle.std.specs.Prelude.{ℕ, suc, Bool, true, false, ◌&&◌, List, [], ◌∷◌}
-use Rattle.candidate_ir.specs.Syntax.Trees.{Forest, none, tree, Tree, is_number}
+use Rattle.ir_trees.specs.Syntax.Trees.{Forest, none, tree, Tree, is_number}
 use Rattle.candidate_eval.specs.declared.eval.source.CandidateSource.{CandidateSource}
 use Rattle.candidate_eval.specs.declared.eval.variable.CanonicalVar.{CanonicalVar}
 use Rattle.candidate_eval.specs.Outcomes.Certainties.{Certainty}

@@ -1,19 +1,19 @@
 //! How the orphan check takes a view: as an item of a class, or by a walk below it.
 
 ghost use Rattle.std.specs.Prelude.{◌≡◌};
-ghost use Rattle.candidate_ir.specs.Declarations.Context.{world};
-ghost use Rattle.candidate_ir.specs.Declarations.Names.{is_local};
-ghost use Rattle.candidate_ir.specs.Syntax.Trees.{tree_holds, is_loose};
-ghost use Rattle.candidate_ir.specs.Syntax.Words.{IsTy, IsPreds, ty_tree, preds_forest, KindFits, kind_tree};
+ghost use Rattle.ir_trees.specs.Declarations.Context.{world};
+ghost use Rattle.ir_trees.specs.Declarations.Names.{is_local};
+ghost use Rattle.ir_trees.specs.Syntax.Trees.{tree_holds, is_loose};
+ghost use Rattle.ir_trees.specs.Syntax.Words.{IsTy, IsPreds, ty_tree, preds_forest, KindFits, kind_tree};
 ghost use Rattle.candidate_eval.specs.Knowability.Orphan.{crate_test, principal_passes};
 ghost use Rattle.candidate_eval.specs.Calls.Table.{loose_in, loose_alias_in, owned_in};
 ghost use Rattle.candidate_eval.specs.Calls.Shapes.{IsShape};
 
 use crate::coherence::{InCrate, OrphanCheckMode};
-use candidate_ir::decl::Cx;
-use candidate_ir::ir::heads::Flag;
-use candidate_ir::ir::kinds::{AdtId, AliasKind, Args, Pattern, Preds, Ty, TyKind};
-use candidate_ir::ir::trees::Trees;
+use ir_context::decl::Cx;
+use ir_trees::ir::heads::Flag;
+use ir_trees::ir::kinds::{AdtId, AliasKind, Args, Pattern, Preds, Ty, TyKind};
+use ir_trees::ir::trees::Trees;
 
 /// The classes of the items of a frontier.
 #[derive(Clone, Copy)]

@@ -1,21 +1,21 @@
 //! The walk of the orphan check.
 
 ghost use Rattle.std.specs.Prelude.{◌≡◌, ◌<◌, ◌^◌, ◌∷◌, ◌++◌, [], IfOk};
-ghost use Rattle.candidate_ir.specs.Declarations.Context.{Grows};
-ghost use Rattle.candidate_ir.specs.Syntax.Words.{IsTy, IsArgs, ty_tree, args_forest};
+ghost use Rattle.ir_trees.specs.Declarations.Context.{Grows};
+ghost use Rattle.ir_trees.specs.Syntax.Words.{IsTy, IsArgs, ty_tree, args_forest};
 ghost use Rattle.candidate_eval.specs.Knowability.Calls.{AnswersAsDescribed, ViewsAsDescribed};
 ghost use Rattle.candidate_eval.specs.Knowability.Orphan.{is_general};
 ghost use Rattle.candidate_eval.specs.Knowability.Normalizer.{IsNormalizer, Normalizes, IsViewed};
-ghost use Rattle.candidate_ir.specs.Syntax.Trees.{count};
+ghost use Rattle.ir_trees.specs.Syntax.Trees.{count};
 ghost use Rattle.candidate_eval.specs.Calls.Visits.{MayVisit, Visits, VisitsDown, the_list};
 
 use crate::coherence::table::{Shape, ViewClass, shape_of};
 use crate::coherence::{InCrate, IsFirstInputType, NormalizeErr, OrphanStop};
 use crate::eval::InferCtxtLike;
-use candidate_ir::decl::Cx;
-use candidate_ir::ir::kinds::{Args, GenericArg, InferTy, Ty, TyKind};
-use candidate_ir::ir::stop::Stop;
-use candidate_ir::ir::trees::Trees;
+use ir_context::decl::Cx;
+use ir_trees::ir::kinds::{Args, GenericArg, InferTy, Ty, TyKind};
+use ir_trees::ir::stop::Stop;
+use ir_trees::ir::trees::Trees;
 use std::alloc::{AllocError, AllocFailed};
 
 /// Below how many types a walk goes at most. Types share their parts, so that a short one can stand for more places than can be visited.

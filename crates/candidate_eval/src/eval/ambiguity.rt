@@ -13,7 +13,7 @@ use crate::eval::certainty::Certainty;
 use crate::eval::context::{EvalCtxt, ProbeKind};
 use crate::eval::refusal::NoSolutionOrStop;
 use crate::eval::response::{Candidate, CanonicalResponse};
-use candidate_ir::ir::stop::Stop;
+use ir_trees::ir::stop::Stop;
 
 /// The response that too little is known: what is pending is set aside for it, and it constrains the variables no more than the
 /// state does.

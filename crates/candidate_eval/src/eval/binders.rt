@@ -1,13 +1,13 @@
 //! What stood under binders, with variables or placeholders in the place of theirs.
 
 ghost use Rattle.std.specs.Prelude.{◌≡◌, true, IfOk, IfErr, OnErr, OnOk};
-ghost use Rattle.candidate_ir.specs.Declarations.Context.{Grows};
-ghost use Rattle.candidate_ir.specs.Syntax.Nodes.{kind_at, tree_at};
-ghost use Rattle.candidate_ir.specs.Instantiation.Opening.{opened, opened_clause, opened_tree};
-ghost use Rattle.candidate_ir.specs.Instantiation.Results.{MapsMembers, tree_in};
-ghost use Rattle.candidate_ir.specs.Unification.Substitutions.{alone};
-ghost use Rattle.candidate_ir.specs.Syntax.Trees.{is_list_kind, none, row};
-ghost use Rattle.candidate_ir.specs.Syntax.Words.{IsArgs, IsClause, IsTy, IsVars, args_forest, clause_tree, ty_tree};
+ghost use Rattle.ir_trees.specs.Declarations.Context.{Grows};
+ghost use Rattle.ir_trees.specs.Syntax.Nodes.{kind_at, tree_at};
+ghost use Rattle.ir_trees.specs.Instantiation.Opening.{opened, opened_clause, opened_tree};
+ghost use Rattle.ir_trees.specs.Instantiation.Results.{MapsMembers, tree_in};
+ghost use Rattle.ir_trees.specs.Unification.Substitutions.{alone};
+ghost use Rattle.ir_trees.specs.Syntax.Trees.{is_list_kind, none, row};
+ghost use Rattle.ir_trees.specs.Syntax.Words.{IsArgs, IsClause, IsTy, IsVars, args_forest, clause_tree, ty_tree};
 ghost use Rattle.candidate_eval.specs.Derivations.Characterization.{bound_kinds};
 ghost use Rattle.candidate_eval.specs.Interface.Evaluators.{HasTree, HasTrees, rigid, with_rigid};
 ghost use Rattle.candidate_eval.specs.Dynamic.Objects.{IsInstance, fresh_instance, with_instance};
@@ -16,12 +16,12 @@ ghost use Rattle.candidate_eval.specs.Interface.Unmade.{IsUnmade};
 ghost use Rattle.candidate_eval.specs.Interface.Shown.{Keeps, LeavesAlike, StopsBy, fresh_values, kinds_under, rigid_values, view};
 
 use crate::eval::context::EvalCtxt;
-use candidate_ir::decl::make::Make;
-use candidate_ir::decl::open::{binder_kinds, open_clause, replace_bound_vars, variable_kinds};
-use candidate_ir::ir::kinds::{Args, Binder, Clause, FnSig, ParamEnv, Vars};
-use candidate_ir::ir::numbered::Numbered;
-use candidate_ir::ir::stop::Stop;
-use candidate_ir::ir::trees::Trees;
+use ir_context::decl::make::Make;
+use ir_folds::decl::open::{binder_kinds, open_clause, replace_bound_vars, variable_kinds};
+use ir_trees::ir::kinds::{Args, Binder, Clause, FnSig, ParamEnv, Vars};
+use ir_trees::ir::numbered::Numbered;
+use ir_trees::ir::stop::Stop;
+use ir_trees::ir::trees::Trees;
 use std::alloc::Global;
 
 /// Fresh variables in the place of those of a binder.

@@ -1,28 +1,28 @@
 //! What is read of clauses, and clauses that are made.
 
 ghost use Rattle.std.specs.Prelude.{◌≡◌, ◌+◌, ◌≤◌, false, true, None, Some, MatchOption, IfOk, IfErr, IfSome};
-ghost use Rattle.candidate_ir.specs.Declarations.Context.{world};
-ghost use Rattle.candidate_ir.specs.Instantiation.Folding.{lacks_argument, substituted, substituted_tree};
-ghost use Rattle.candidate_ir.specs.Instantiation.Results.{MapsMembers, StopsOver, SubstitutesOn, row_at, tree_in};
-ghost use Rattle.candidate_ir.specs.Syntax.Nodes.{kind_at, tree_at};
-ghost use Rattle.candidate_ir.specs.Declarations.References.{ArgumentsFit, Takes};
-ghost use Rattle.candidate_ir.specs.Syntax.Trees.{Forest, height, heights, is_list_kind, is_param, tree_holds};
-ghost use Rattle.candidate_ir.specs.Syntax.Words.{IsArgs, IsClause, IsTy, ClauseFits, args_forest, clause_kind_tree, clause_tree, ty_tree};
+ghost use Rattle.ir_trees.specs.Declarations.Context.{world};
+ghost use Rattle.ir_trees.specs.Instantiation.Folding.{lacks_argument, substituted, substituted_tree};
+ghost use Rattle.ir_trees.specs.Instantiation.Results.{MapsMembers, StopsOver, SubstitutesOn, row_at, tree_in};
+ghost use Rattle.ir_trees.specs.Syntax.Nodes.{kind_at, tree_at};
+ghost use Rattle.ir_trees.specs.Declarations.References.{ArgumentsFit, Takes};
+ghost use Rattle.ir_trees.specs.Syntax.Trees.{Forest, height, heights, is_list_kind, is_param, tree_holds};
+ghost use Rattle.ir_trees.specs.Syntax.Words.{IsArgs, IsClause, IsTy, ClauseFits, args_forest, clause_kind_tree, clause_tree, ty_tree};
 ghost use Rattle.candidate_eval.specs.Interface.Unmade.{IsUnmade};
 ghost use Rattle.candidate_eval.specs.Dynamic.ObjectRequirements.{arguments_of, first_tree, goals_in, trait_fact, trait_said};
 ghost use Rattle.candidate_eval.specs.Interface.Shown.{Keeps, view};
 
 use crate::eval::context::EvalCtxt;
 use crate::structural::making::first_type;
-use candidate_ir::decl::Cx;
-use candidate_ir::decl::make::Make;
-use candidate_ir::decl::subst::subst;
-use candidate_ir::ir::kinds::{
+use ir_context::decl::Cx;
+use ir_context::decl::make::Make;
+use ir_folds::decl::subst::subst;
+use ir_trees::ir::kinds::{
     Args, Binder, Clause, ClauseKind, Goal, ParamEnv, TraitPredicate, TraitRef, Ty, Vars,
 };
-use candidate_ir::ir::numbered::Numbered;
-use candidate_ir::ir::stop::Stop;
-use candidate_ir::ir::trees::Trees;
+use ir_trees::ir::numbered::Numbered;
+use ir_trees::ir::stop::Stop;
+use ir_trees::ir::trees::Trees;
 use std::alloc::Global;
 
 /// What the clause says of a trait, that it holds or that it does not; `None` if it says something else. The reference is the one that

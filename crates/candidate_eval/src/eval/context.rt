@@ -1,16 +1,16 @@
 //! What generic code knows of an evaluator.
 
 ghost use Rattle.std.specs.Prelude.{◌≡◌, ◌≢◌, List, [], ◌∷◌, ◌++◌, length, map, Some, None, All, IfOk, IfErr, OnOk, OnErr};
-ghost use Rattle.candidate_ir.specs.declared.ir.kinds.TyKind.TheVariants as K;
-ghost use Rattle.candidate_ir.specs.Declarations.Context.{Context, Grows, world};
-ghost use Rattle.candidate_ir.specs.Instantiation.Folds.{IsArg, arg_tree};
-ghost use Rattle.candidate_ir.specs.Unification.Substitutions.{alone};
-ghost use Rattle.candidate_ir.specs.Syntax.Trees.{Tree};
-ghost use Rattle.candidate_ir.specs.Syntax.Words.{IsTy, IsConst, IsRegion, IsArgs, IsClause, IsParamEnv, KindFits, ty_tree, const_tree, region_tree, args_forest, clause_tree, env_forest};
+ghost use Rattle.ir_trees.specs.declared.ir.kinds.TyKind.TheVariants as K;
+ghost use Rattle.ir_trees.specs.Declarations.Context.{Context, Grows, world};
+ghost use Rattle.ir_trees.specs.Instantiation.Folds.{IsArg, arg_tree};
+ghost use Rattle.ir_trees.specs.Unification.Substitutions.{alone};
+ghost use Rattle.ir_trees.specs.Syntax.Trees.{Tree};
+ghost use Rattle.ir_trees.specs.Syntax.Words.{IsTy, IsConst, IsRegion, IsArgs, IsClause, IsParamEnv, KindFits, ty_tree, const_tree, region_tree, args_forest, clause_tree, env_forest};
 ghost use Rattle.candidate_eval.specs.Interface.Evaluators.{Keeps, KeepsBut, NoFault, PutsOffIfOk, IsGoal, IsHiddenOpaque, pending_of, pendings_of, with_goals_of, normal_ty, normal_const, accepted, arguments_accepted, arguments_equated, resolved_root, begun, kinds_listed, rigid, with_rigid, alias_trees, IsEvaluatorStop};
 ghost use Rattle.candidate_eval.specs.Interface.Accounts.{Question, by_stop, if_refused};
 ghost use Rattle.candidate_eval.specs.Interface.Accounts as question;
-ghost use Rattle.candidate_ir.specs.declared.ir.stop.Stop.{Stop};
+ghost use Rattle.ir_trees.specs.declared.ir.stop.Stop.{Stop};
 ghost use Rattle.candidate_eval.specs.Judges.Lawful.{Lawful};
 ghost use Rattle.candidate_eval.specs.Interface.Knowing.{SeesStates};
 ghost use Rattle.candidate_eval.specs.Outcomes.ResponseTrees.{IsResponse, response_of};
@@ -21,10 +21,10 @@ use crate::eval::certainty::Certainty;
 use crate::eval::mode::TypingMode;
 use crate::eval::refusal::NoSolutionOrStop;
 use crate::eval::response::{CandidateHeadUsages, CanonicalResponse};
-use candidate_ir::ir::kinds::{
+use ir_trees::ir::kinds::{
     AliasTy, Args, Clause, Const, GenericArg, Goal, GoalSource, ParamEnv, Region, Ty, VarKind,
 };
-use candidate_ir::ir::stop::Stop;
+use ir_trees::ir::stop::Stop;
 
 /// What a probe begins with.
 #[derive(Clone, Copy, Debug, PartialEq, Eq)]

@@ -1,7 +1,7 @@
 //! What an evaluator knows of the impls of a trait reference.
 
 ghost use Rattle.std.specs.Prelude.{◌≡◌};
-ghost use Rattle.candidate_ir.specs.Syntax.Words.{IsArgs, IsParamEnv, IsTy};
+ghost use Rattle.ir_trees.specs.Syntax.Words.{IsArgs, IsParamEnv, IsTy};
 ghost use Rattle.candidate_eval.specs.Knowability.Answers.{known_by};
 ghost use Rattle.candidate_eval.specs.Interface.Knowing.{is_evaluator_stop};
 ghost use Rattle.candidate_eval.specs.Knowability.Normalizer.{IsTold};
@@ -10,8 +10,8 @@ ghost use Rattle.candidate_eval.specs.Interface.Shown.{Keeps, NormalizesAsJudged
 use crate::coherence::{Conflict, NormalizeErr, OrphanStop, knowable};
 use crate::eval::context::EvalCtxt;
 use crate::eval::refusal::NoSolutionOrStop;
-use candidate_ir::ir::kinds::{ParamEnv, TraitRef, Ty};
-use candidate_ir::ir::stop::Stop;
+use ir_trees::ir::kinds::{ParamEnv, TraitRef, Ty};
+use ir_trees::ir::stop::Stop;
 use std::alloc::Global;
 
 /// The evaluator's normal form of a type.

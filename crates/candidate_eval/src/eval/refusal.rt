@@ -3,7 +3,7 @@
 ghost use Rattle.std.specs.Prelude.{◌≡◌};
 ghost use Rattle.candidate_eval.specs.declared.eval.refusal.NoSolutionOrStop.TheVariants as refusal;
 
-use candidate_ir::ir::stop::Stop;
+use ir_trees::ir::stop::Stop;
 
 /// A goal is refused, or a call gave up. A stop is never a refusal.
 #[derive(Clone, Copy, Debug, PartialEq, Eq)]

@@ -1,15 +1,15 @@
 //! Environments with all values put in.
 
 ghost use Rattle.std.specs.Prelude.{◌≡◌, IfOk, IfErr};
-ghost use Rattle.candidate_ir.specs.Syntax.Words.{IsParamEnv, env_forest};
+ghost use Rattle.ir_trees.specs.Syntax.Words.{IsParamEnv, env_forest};
 ghost use Rattle.candidate_eval.specs.Judges.States.{resolved};
 ghost use Rattle.candidate_eval.specs.Interface.Shown.{Keeps, StopsSomehow};
 
 use crate::eval::context::EvalCtxt;
-use candidate_ir::decl::make::Make;
-use candidate_ir::ir::kinds::ParamEnv;
-use candidate_ir::ir::stop::Stop;
-use candidate_ir::ir::trees::Trees;
+use ir_context::decl::make::Make;
+use ir_trees::ir::kinds::ParamEnv;
+use ir_trees::ir::stop::Stop;
+use ir_trees::ir::trees::Trees;
 use std::alloc::Global;
 
 /// The environment, with all values put in.

@@ -2,23 +2,23 @@
 
 ghost use Rattle.std.specs.Prelude.{◌≡◌, [], ◌↔◌, IsTrue, IfOk, IfErr, IfSome, Some, None, map, length, ◌<◌};
 ghost use Rattle.std.specs.List.{All};
-ghost use Rattle.candidate_ir.specs.Instantiation.Folds.{IsArg, arg_tree};
-ghost use Rattle.candidate_ir.specs.Syntax.Trees.{is_number};
-ghost use Rattle.candidate_ir.specs.Syntax.Words.{clause_tree, ClauseListFits};
+ghost use Rattle.ir_trees.specs.Instantiation.Folds.{IsArg, arg_tree};
+ghost use Rattle.ir_trees.specs.Syntax.Trees.{is_number};
+ghost use Rattle.ir_trees.specs.Syntax.Words.{clause_tree, ClauseListFits};
 ghost use Rattle.candidate_eval.specs.Outcomes.ResponseTrees.{IsResponse, AreCandidates, response_of, candidates_of, merge_of, IsCopy, IsMergeTo};
 ghost use Rattle.candidate_eval.specs.Outcomes.Responses.{has_only_region_constraints, has_no_inference_or_external_constraints};
 ghost use Rattle.std.specs.Cmp.Lexicographic.{pointwise};
-ghost use Rattle.candidate_ir.specs.Hierarchy.Elaboration.{same_forest, same_tree};
+ghost use Rattle.ir_trees.specs.Hierarchy.Elaboration.{same_forest, same_tree};
 ghost use Rattle.candidate_eval.specs.Outcomes.Merging.{same_response, is_always_applicable, first_applicable, all_answer, Merge, merged};
 
 use crate::eval::certainty::Certainty;
 use crate::eval::source::CandidateSource;
 use crate::eval::variable::CanonicalVar;
-use candidate_ir::decl::Cx;
-use candidate_ir::decl::make::Make;
-use candidate_ir::ir::kinds::{Args, Clause, GenericArg};
-use candidate_ir::ir::stop::Stop;
-use candidate_ir::ir::trees::Trees;
+use ir_context::decl::Cx;
+use ir_context::decl::make::Make;
+use ir_trees::ir::kinds::{Args, Clause, GenericArg};
+use ir_trees::ir::stop::Stop;
+use ir_trees::ir::trees::Trees;
 use std::alloc::{AllocError, Global};
 use std::fmt;
 

@@ -1,6 +1,6 @@
 //! Where a candidate comes from.
 
-use candidate_ir::decl::contents::{AliasBoundKind, ImplId};
+use ir_trees::decl::contents::{AliasBoundKind, ImplId};
 
 /// The way in which a goal is proved.
 #[derive(Clone, Copy, Debug, PartialEq, Eq)]

@@ -1,6 +1,6 @@
 //! The variables that goals and responses speak of.
 
-use candidate_ir::ir::heads::VariableSort;
+use ir_trees::ir::heads::VariableSort;
 
 /// What a variable to be solved stands for.
 #[derive(Clone, Copy, PartialEq, Eq)]

@@ -1,7 +1,7 @@
 //! What an object's own bounds say of its associated types.
 
 ghost use Rattle.std.specs.Prelude.{◌≡◌, [], ◌∷◌, ◌++◌, map, Some, None, MatchOption, IfOk, IfErr, true, false};
-ghost use Rattle.candidate_ir.specs.Syntax.Words.{IsArgs, IsClause, IsParamEnv, IsTy, ClauseListFits, clause_tree, ty_tree};
+ghost use Rattle.ir_trees.specs.Syntax.Words.{IsArgs, IsClause, IsParamEnv, IsTy, ClauseListFits, clause_tree, ty_tree};
 ghost use Rattle.candidate_eval.specs.Interface.Accounts.{by_stop, if_refused};
 ghost use Rattle.candidate_eval.specs.Dynamic.Objects.{is_about, IsBound, fresh_instance, term_in, IsExact, IsInstance, IsInstanceOfOne, by_object_stop, if_ambiguous};
 ghost use Rattle.candidate_eval.specs.Dynamic.Calls.{bound_equated_here, bound_matches_here, is_equated_here, TriedHere, IsPickedHere, IsPickedAtOnceHere, IsAmbiguousHere};
@@ -12,12 +12,12 @@ ghost use Rattle.candidate_eval.specs.Interface.Shown.{Keeps, LeavesAlike, Stops
 use crate::eval::binders::instantiate_clause_with_infer;
 use crate::eval::context::{EvalCtxt, ProbeKind};
 use crate::eval::refusal::NoSolutionOrStop;
-use candidate_ir::decl::Cx;
-use candidate_ir::ir::kinds::{
+use ir_context::decl::Cx;
+use ir_trees::ir::kinds::{
     AliasTerm, AssocId, Clause, ClauseKind, ParamEnv, ProjectionPredicate, Ty,
 };
-use candidate_ir::ir::stop::Stop;
-use candidate_ir::ir::trees::Trees;
+use ir_trees::ir::stop::Stop;
+use ir_trees::ir::trees::Trees;
 use std::alloc::Global;
 
 /// Too little is known to say what a projection is; or a call gave up.

@@ -1,9 +1,9 @@
 //! What an object candidate asks for, besides that its trait reference fits.
 
 ghost use Rattle.std.specs.Prelude.{◌≡◌, IfOk, IfErr, OnOk, All};
-ghost use Rattle.candidate_ir.specs.Declarations.Context.{world};
-ghost use Rattle.candidate_ir.specs.Declarations.References.{ArgumentsFit, Takes};
-ghost use Rattle.candidate_ir.specs.Syntax.Words.{IsArgs, IsParamEnv, IsPreds, IsTy, ClauseFits, ClauseListFits, args_forest, clause_kind_tree, ty_tree};
+ghost use Rattle.ir_trees.specs.Declarations.Context.{world};
+ghost use Rattle.ir_trees.specs.Declarations.References.{ArgumentsFit, Takes};
+ghost use Rattle.ir_trees.specs.Syntax.Words.{IsArgs, IsParamEnv, IsPreds, IsTy, ClauseFits, ClauseListFits, args_forest, clause_kind_tree, ty_tree};
 ghost use Rattle.candidate_eval.specs.Interface.Evaluators.{IsGoal};
 ghost use Rattle.candidate_eval.specs.Dynamic.Objects.{with_instance, by_object_stop, if_ambiguous};
 ghost use Rattle.candidate_eval.specs.Dynamic.ObjectRequirements.{reference_clause};
@@ -17,11 +17,11 @@ use crate::eval::context::EvalCtxt;
 use crate::objects::object::AmbiguousOrStop;
 use crate::objects::replacing::replaced;
 use crate::objects::required::{own_bounds, requirements};
-use candidate_ir::decl::make::Make;
-use candidate_ir::ir::kinds::{
+use ir_context::decl::make::Make;
+use ir_trees::ir::kinds::{
     Binder, Clause, Goal, ParamEnv, PredicatePolarity, Preds, TraitPredicate, TraitRef, Ty,
 };
-use candidate_ir::ir::stop::Stop;
+use ir_trees::ir::stop::Stop;
 use std::alloc::Global;
 
 /// The reference with fresh variables in the place of those of its binder.

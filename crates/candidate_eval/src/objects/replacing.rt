@@ -1,12 +1,12 @@
 //! What an object has to fulfil, where its own bounds say what its associated types are.
 
 ghost use Rattle.std.specs.Prelude.{◌≡◌, ◌&&◌, ◌<◌, ◌++◌, [], ◌∷◌, Some, None, MatchOption, IfOk, IfErr, length, option_map};
-ghost use Rattle.candidate_ir.specs.Declarations.Context.{Grows};
-ghost use Rattle.candidate_ir.specs.Instantiation.Folds.{IsArg, IsOfKind, arg_tree};
-ghost use Rattle.candidate_ir.specs.declared.ir.heads.Head.TheVariants as H;
-ghost use Rattle.candidate_ir.specs.Syntax.Nodes.{tree_at};
-ghost use Rattle.candidate_ir.specs.Validity.WellFormed.{TypesFit};
-ghost use Rattle.candidate_ir.specs.Syntax.Words.{IsArgs, IsClause, IsParamEnv, IsTy, ClauseListFits, args_forest, clause_tree, ty_tree};
+ghost use Rattle.ir_trees.specs.Declarations.Context.{Grows};
+ghost use Rattle.ir_trees.specs.Instantiation.Folds.{IsArg, IsOfKind, arg_tree};
+ghost use Rattle.ir_trees.specs.declared.ir.heads.Head.TheVariants as H;
+ghost use Rattle.ir_trees.specs.Syntax.Nodes.{tree_at};
+ghost use Rattle.ir_trees.specs.Validity.WellFormed.{TypesFit};
+ghost use Rattle.ir_trees.specs.Syntax.Words.{IsArgs, IsClause, IsParamEnv, IsTy, ClauseListFits, args_forest, clause_tree, ty_tree};
 ghost use Rattle.candidate_eval.specs.Interface.Unmade.{IsUnmade};
 ghost use Rattle.candidate_eval.specs.Interface.Noting.{IsNotingStop};
 ghost use Rattle.candidate_eval.specs.Dynamic.Objects.{is_about, projection_at, by_object_stop, if_ambiguous};
@@ -17,15 +17,15 @@ ghost use Rattle.candidate_eval.specs.Interface.Shown.{Keeps, StopsSomehow, view
 use crate::eval::context::EvalCtxt;
 use crate::objects::object::{AmbiguousOrStop, bound_about, pick_bound};
 use crate::structural::making::first_type;
-use candidate_ir::decl::Cx;
-use candidate_ir::decl::fold::fold;
-use candidate_ir::decl::make::Make;
-use candidate_ir::ir::heads::Flag;
-use candidate_ir::ir::kinds::{
+use ir_context::decl::Cx;
+use ir_context::decl::make::Make;
+use ir_folds::decl::fold::fold;
+use ir_trees::ir::heads::Flag;
+use ir_trees::ir::kinds::{
     AliasKind, AliasTerm, AliasTy, Args, AssocId, Clause, GenericArg, ParamEnv, Ty, TyKind,
 };
-use candidate_ir::ir::stop::Stop;
-use candidate_ir::ir::trees::Trees;
+use ir_trees::ir::stop::Stop;
+use ir_trees::ir::trees::Trees;
 use std::alloc::Global;
 
 /// How many projections of an object's own a clause may have. Types share their parts, so that a short one can have more than can be listed.

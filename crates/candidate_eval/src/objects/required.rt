@@ -2,25 +2,25 @@
 
 ghost use Rattle.std.specs.Prelude.{◌≡◌, map, IfErr, IfOk, true};
 ghost use Rattle.candidate_eval.specs.Interface.Unmade.{IsUnmade};
-ghost use Rattle.candidate_ir.specs.Declarations.Context.{Grows, world};
-ghost use Rattle.candidate_ir.specs.Declarations.References.{Takes};
-ghost use Rattle.candidate_ir.specs.Syntax.Trees.{tree};
-ghost use Rattle.candidate_ir.specs.Syntax.Words.{IsArgs, IsClause, IsPred, IsPreds, IsTy, ClauseListFits, ListFits, PredFits, args_forest, clause_tree, list_forest, pred_kind_tree, pred_tree, preds_forest, ty_tree};
+ghost use Rattle.ir_trees.specs.Declarations.Context.{Grows, world};
+ghost use Rattle.ir_trees.specs.Declarations.References.{Takes};
+ghost use Rattle.ir_trees.specs.Syntax.Trees.{tree};
+ghost use Rattle.ir_trees.specs.Syntax.Words.{IsArgs, IsClause, IsPred, IsPreds, IsTy, ClauseListFits, ListFits, PredFits, args_forest, clause_tree, list_forest, pred_kind_tree, pred_tree, preds_forest, ty_tree};
 ghost use Rattle.candidate_eval.specs.Dynamic.Required.{Adds, AreRequirements, as_bound, declared_at, declared_trees, for_arguments, is_required, item_bounds, own_bound, own_bounds, required_bounds, said_of};
 ghost use Rattle.candidate_eval.specs.Dynamic.Required as seen;
 
-use candidate_ir::decl::Cx;
-use candidate_ir::decl::definition::AssocKind;
-use candidate_ir::decl::elaborate::elaborate;
-use candidate_ir::decl::make::Make;
-use candidate_ir::decl::parameters::has_arguments;
-use candidate_ir::decl::subst::subst;
-use candidate_ir::ir::kinds::{
+use ir_context::decl::Cx;
+use ir_context::decl::make::Make;
+use ir_folds::decl::elaborate::elaborate;
+use ir_folds::decl::parameters::has_arguments;
+use ir_folds::decl::subst::subst;
+use ir_trees::decl::definition::AssocKind;
+use ir_trees::ir::kinds::{
     AliasId, AliasTerm, Args, AssocId, Binder, Clause, ClauseKind, ExistentialPredicate,
     ExistentialProjection, GenericArg, Pred, Preds, ProjectionPredicate, TraitId, TraitRef, Ty,
 };
-use candidate_ir::ir::stop::Stop;
-use candidate_ir::ir::trees::Trees;
+use ir_trees::ir::stop::Stop;
+use ir_trees::ir::trees::Trees;
 use std::alloc::{AllocError, Global};
 
 /// Where clauses are declared.

@@ -1,15 +1,14 @@
 //! What the cells of the tables are read from, kind by kind.
 
 ghost use Rattle.std.specs.Prelude.{◌≡◌, false};
-ghost use Rattle.candidate_ir.specs.Declarations.Context.{world};
-ghost use Rattle.candidate_ir.specs.Declarations.Lookups as lookup;
+ghost use Rattle.ir_trees.specs.Declarations.Context.{world};
+ghost use Rattle.ir_trees.specs.Declarations.Lookups as lookup;
 ghost use Rattle.candidate_eval.specs.Builtins.Asked.{owned_asked, alias_asked, auto_asked, unsized_asked, sizedness_asked, copy_asked, dropped_asked, destruct_asked, asked_for};
 
 use crate::structural::Column;
-use candidate_ir::decl::{Cx, Sizedness};
-use candidate_ir::ir::kinds::{
-    AdtId, AliasId, AliasKind, AliasTy, Args, Binder, InferTy, Ty, TyKind,
-};
+use ir_context::decl::Cx;
+use ir_trees::decl::Sizedness;
+use ir_trees::ir::kinds::{AdtId, AliasId, AliasKind, AliasTy, Args, Binder, InferTy, Ty, TyKind};
 
 /// What a cell asks about.
 #[derive(Clone, Copy)]

@@ -1,16 +1,16 @@
 //! What can be called: with which inputs, as one tuple, and to which output.
 
 ghost use Rattle.std.specs.Prelude.{◌≡◌, ◌↔◌, ◌∷◌, [], IsTrue, IfOk, IfErr, IfSome, Some, None, false, true, length};
-ghost use Rattle.candidate_ir.specs.Declarations.Context.{Grows, world};
-ghost use Rattle.candidate_ir.specs.Instantiation.Folding.{IsSubstStop, lacks_argument, substituted_tree};
-ghost use Rattle.candidate_ir.specs.Declarations.Lookups.{definition, fn_flags};
-ghost use Rattle.candidate_ir.specs.Declarations.References.{Takes};
-ghost use Rattle.candidate_ir.specs.Instantiation.Signatures.{SignatureHas};
-ghost use Rattle.candidate_ir.specs.Unification.Substitutions.{alone};
-ghost use Rattle.candidate_ir.specs.Syntax.Trees.{tree_holds};
-ghost use Rattle.candidate_ir.specs.Validity.WellFormed.{SignatureFits};
-ghost use Rattle.candidate_ir.specs.Syntax.Words.{IsArgs, IsSig, IsTy, SigFits, KindFits, args_forest, kind_tree, sig_kind_tree, sig_tree, ty_tree};
-ghost use Rattle.candidate_ir.specs.Declarations.Worlds.{FunctionSort, kinds_of, parameters};
+ghost use Rattle.ir_trees.specs.Declarations.Context.{Grows, world};
+ghost use Rattle.ir_trees.specs.Instantiation.Folding.{IsSubstStop, lacks_argument, substituted_tree};
+ghost use Rattle.ir_trees.specs.Declarations.Lookups.{definition, fn_flags};
+ghost use Rattle.ir_trees.specs.Declarations.References.{Takes};
+ghost use Rattle.ir_context.specs.Instantiation.Signatures.{SignatureHas};
+ghost use Rattle.ir_trees.specs.Unification.Substitutions.{alone};
+ghost use Rattle.ir_trees.specs.Syntax.Trees.{tree_holds};
+ghost use Rattle.ir_trees.specs.Validity.WellFormed.{SignatureFits};
+ghost use Rattle.ir_trees.specs.Syntax.Words.{IsArgs, IsSig, IsTy, SigFits, KindFits, args_forest, kind_tree, sig_kind_tree, sig_tree, ty_tree};
+ghost use Rattle.ir_trees.specs.Declarations.Worlds.{FunctionSort, kinds_of, parameters};
 ghost use Rattle.candidate_eval.specs.Builtins.Tables.{IsTypesStop};
 ghost use Rattle.candidate_eval.specs.Builtins.Callable.{extends, closure_calls, signature_callable, pointer_callable, are_types, can_be_called, function_signature, declared_signature, function_calls, calls, makes, const_calls, const_makes, callable_of, IsCallable, calls_of, const_calls_of, instance_makes, pointer_calls, pointer_makes, function_makes, const_function_calls, const_function_makes, IsMadeStop, IsCallStop, IsConstCallStop, is_const_function, is_unknown, called_of, called_calls, called_makes, called_const_calls, called_const_makes, CalledFits};
 ghost use Rattle.candidate_eval.specs.Builtins.Callable as seen;
@@ -18,15 +18,15 @@ ghost use Rattle.candidate_eval.specs.Interface.Accounts.{if_refused, if_stopped
 
 use crate::eval::refusal::NoSolutionOrStop;
 use crate::structural::tables::{is_no_unknown, kind_of};
-use candidate_ir::decl::Cx;
-use candidate_ir::decl::definition::{FnFlags, are_type_args};
-use candidate_ir::decl::make::Make;
-use candidate_ir::decl::subst::subst;
-use candidate_ir::ir::kinds::{
+use ir_context::decl::Cx;
+use ir_context::decl::make::Make;
+use ir_folds::decl::subst::subst;
+use ir_trees::decl::definition::{FnFlags, are_type_args};
+use ir_trees::ir::kinds::{
     Args, Binder, ClosureArgs, ClosureId, ClosureKind, ClosureSig, FnId, FnSig, Sig, Ty, TyKind,
 };
-use candidate_ir::ir::stop::Stop;
-use candidate_ir::ir::trees::Trees;
+use ir_trees::ir::stop::Stop;
+use ir_trees::ir::trees::Trees;
 use std::alloc::Global;
 
 /// What is called where a constant is computed.

@@ -1,11 +1,11 @@
 //! What has to hold for a value of a type to be dropped where a constant is computed.
 
 ghost use Rattle.std.specs.Prelude.{◌≡◌, [], ◌∷◌, ◌++◌, None, Some, IfOk, IfErr, length, map, false, ◌⊎◌};
-ghost use Rattle.candidate_ir.specs.Declarations.Context.{Grows};
-ghost use Rattle.candidate_ir.specs.Instantiation.Folding.{IsSubstStop};
-ghost use Rattle.candidate_ir.specs.Unification.Substitutions.{alone};
-ghost use Rattle.candidate_ir.specs.Validity.WellFormed.{TypesFit};
-ghost use Rattle.candidate_ir.specs.Syntax.Words.{IsTy, ty_tree};
+ghost use Rattle.ir_trees.specs.Declarations.Context.{Grows};
+ghost use Rattle.ir_trees.specs.Instantiation.Folding.{IsSubstStop};
+ghost use Rattle.ir_trees.specs.Unification.Substitutions.{alone};
+ghost use Rattle.ir_trees.specs.Validity.WellFormed.{TypesFit};
+ghost use Rattle.ir_trees.specs.Syntax.Words.{IsTy, ty_tree};
 ghost use Rattle.candidate_eval.specs.Builtins.Tables.{row_of, is_excluded, IsTypesStop};
 ghost use Rattle.candidate_eval.specs.Builtins.Destruct.{meets, references_of, AreReferences, own_destructor, own_conditions, kind_destructor, own_drop_of, own_references, all_references, destruct_conditions, IsConditionsStop};
 ghost use Rattle.candidate_eval.specs.Builtins.Destruct as seen;
@@ -16,11 +16,12 @@ use crate::eval::refusal::NoSolutionOrStop;
 use crate::structural::Column;
 use crate::structural::making::made;
 use crate::structural::tables::{cell, is_refused as is_refused_cell};
-use candidate_ir::decl::make::Make;
-use candidate_ir::decl::{Cx, Destructor, LangItem};
-use candidate_ir::ir::kinds::{GenericArg, TraitId, TraitRef, Ty, TyKind};
-use candidate_ir::ir::stop::Stop;
-use candidate_ir::ir::trees::Trees;
+use ir_context::decl::Cx;
+use ir_context::decl::make::Make;
+use ir_trees::decl::{Destructor, LangItem};
+use ir_trees::ir::kinds::{GenericArg, TraitId, TraitRef, Ty, TyKind};
+use ir_trees::ir::stop::Stop;
+use ir_trees::ir::trees::Trees;
 use std::alloc::Global;
 
 /// What a type itself has to meet.

@@ -1,19 +1,19 @@
 //! The types that a cell asks about.
 
 ghost use Rattle.std.specs.Prelude.{◌≡◌, [], ◌∷◌, IfOk, IfErr, IfSome, length, map, true};
-ghost use Rattle.candidate_ir.specs.Declarations.Context.{Grows};
-ghost use Rattle.candidate_ir.specs.Validity.WellFormed.{TypesFit};
-ghost use Rattle.candidate_ir.specs.Syntax.Words.{IsArgs, args_forest, ty_tree};
+ghost use Rattle.ir_trees.specs.Declarations.Context.{Grows};
+ghost use Rattle.ir_trees.specs.Validity.WellFormed.{TypesFit};
+ghost use Rattle.ir_trees.specs.Syntax.Words.{IsArgs, args_forest, ty_tree};
 ghost use Rattle.candidate_eval.specs.Builtins.Tables.{optional, last_of, with_args, bytes, IsTypesStop};
 ghost use Rattle.candidate_eval.specs.Builtins.Asked.{ty_args, first_ty, AskedFits, HaveArguments, arguments_of, asked_types, is_listed, trees_with};
 
 use crate::structural::asked::Asked;
-use candidate_ir::decl::Cx;
-use candidate_ir::decl::make::Make;
-use candidate_ir::decl::subst::subst;
-use candidate_ir::ir::kinds::{Args, GenericArg, Ty, TyKind, UintTy};
-use candidate_ir::ir::stop::Stop;
-use candidate_ir::ir::trees::Trees;
+use ir_context::decl::Cx;
+use ir_context::decl::make::Make;
+use ir_folds::decl::subst::subst;
+use ir_trees::ir::kinds::{Args, GenericArg, Ty, TyKind, UintTy};
+use ir_trees::ir::stop::Stop;
+use ir_trees::ir::trees::Trees;
 use std::alloc::{AllocError, Global};
 
 /// The types among the arguments, in order.

@@ -1,9 +1,9 @@
 //! The columns of the tables as calls.
 
 ghost use Rattle.std.specs.Prelude.{◌≡◌, ◌↔◌, IsTrue, IfOk, IfErr, length, false, true};
-ghost use Rattle.candidate_ir.specs.Declarations.Context.{Grows, world};
-ghost use Rattle.candidate_ir.specs.Declarations.References.{Takes};
-ghost use Rattle.candidate_ir.specs.Syntax.Words.{IsTy, KindFits, kind_tree, ty_tree};
+ghost use Rattle.ir_trees.specs.Declarations.Context.{Grows, world};
+ghost use Rattle.ir_trees.specs.Declarations.References.{Takes};
+ghost use Rattle.ir_trees.specs.Syntax.Words.{IsTy, KindFits, kind_tree, ty_tree};
 ghost use Rattle.candidate_eval.specs.Builtins.Tables.{Asks, Refused, cell, row_of, is_excluded, IsCellStop};
 ghost use Rattle.candidate_eval.specs.Builtins.Asked.{AskedFits, asked_cell, under_of, parts_of, ArePartsIn, auto_known, kind_known};
 ghost use Rattle.candidate_eval.specs.Builtins.Asked as seen;
@@ -13,11 +13,12 @@ use crate::eval::refusal::NoSolutionOrStop;
 use crate::structural::asked::{Asked, asked_for};
 use crate::structural::making::made;
 use crate::structural::{Column, Constituents, Under};
-use candidate_ir::decl::make::Make;
-use candidate_ir::decl::{Cx, Sizedness};
-use candidate_ir::ir::kinds::{AliasKind, InferTy, Ty, TyKind};
-use candidate_ir::ir::stop::Stop;
-use candidate_ir::ir::trees::Trees;
+use ir_context::decl::Cx;
+use ir_context::decl::make::Make;
+use ir_trees::decl::Sizedness;
+use ir_trees::ir::kinds::{AliasKind, InferTy, Ty, TyKind};
+use ir_trees::ir::stop::Stop;
+use ir_trees::ir::trees::Trees;
 use std::alloc::Global;
 
 /// The kind of the type, whose arguments are those that it takes.

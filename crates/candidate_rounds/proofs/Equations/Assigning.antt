@@ -6,25 +6,25 @@ use Rattle.std.proofs.Math.Dec.{leb}
 use Rattle.std.proofs.lemmas.Bool.{eq-eqb, ne_eqb, leb-true, leb-false, le-leb, lt-leb, le-ltb, lt-ltb}
 use Rattle.std.proofs.lemmas.Option.{slice_get-map}
 use Rattle.std.proofs.lemmas.List.{length-append}
-use Rattle.candidate_ir.specs.declared.ir.heads.Head.{Head}
-use Rattle.candidate_ir.specs.declared.ir.heads.Head.TheVariants as H
-use Rattle.candidate_ir.specs.declared.ir.heads.Variable.{Variable}
-use Rattle.candidate_ir.specs.declared.ir.heads.VariableSort.{VariableSort}
-use Rattle.candidate_ir.specs.declared.ir.heads.VariableSort.TheVariants as V
-use Rattle.candidate_ir.specs.declared.ir.kinds.GenericArg.{GenericArg}
-use Rattle.candidate_ir.specs.declared.ir.kinds.GenericArg.TheVariants as A
-use Rattle.candidate_ir.specs.declared.ir.kinds.Ty.{Ty}
-use Rattle.candidate_ir.specs.declared.ir.kinds.Const.{Const}
-use Rattle.candidate_ir.specs.declared.ir.stop.Stop.{Stop}
-use Rattle.candidate_ir.specs.Syntax.Binders.{is_beyond, escapes, tree_escapes}
-use Rattle.candidate_ir.specs.declared.ir.heads.Flag.TheVariants as F
-use Rattle.candidate_ir.specs.Syntax.Flags.{mark, of_constant, of_type}
-use Rattle.candidate_ir.specs.Instantiation.Folds.{IsArg, IsOfKind, arg_tree}
-use Rattle.candidate_ir.specs.Syntax.Kinds.{arg_kind, arg_number}
-use Rattle.candidate_ir.specs.Unification.Substitutions.{alone, fits_sort, is_constant_kind, is_placeholder_above, same_variable}
-use Rattle.candidate_ir.specs.Syntax.Trees.{Forest, none, tree, Kind, ConstantKind, Tree, binders_of, erase, erased_head, holds, tree_holds, kind_of, is_type_kind, sort_kind, is_number}
-use Rattle.candidate_ir.proofs.Instantiation.Folding.{fold-nothing}
-use Rattle.candidate_ir.proofs.Syntax.Rows.{kind-of}
+use Rattle.ir_trees.specs.declared.ir.heads.Head.{Head}
+use Rattle.ir_trees.specs.declared.ir.heads.Head.TheVariants as H
+use Rattle.ir_trees.specs.declared.ir.heads.Variable.{Variable}
+use Rattle.ir_trees.specs.declared.ir.heads.VariableSort.{VariableSort}
+use Rattle.ir_trees.specs.declared.ir.heads.VariableSort.TheVariants as V
+use Rattle.ir_trees.specs.declared.ir.kinds.GenericArg.{GenericArg}
+use Rattle.ir_trees.specs.declared.ir.kinds.GenericArg.TheVariants as A
+use Rattle.ir_trees.specs.declared.ir.kinds.Ty.{Ty}
+use Rattle.ir_trees.specs.declared.ir.kinds.Const.{Const}
+use Rattle.ir_trees.specs.declared.ir.stop.Stop.{Stop}
+use Rattle.ir_trees.specs.Syntax.Binders.{is_beyond, escapes, tree_escapes}
+use Rattle.ir_trees.specs.declared.ir.heads.Flag.TheVariants as F
+use Rattle.ir_trees.specs.Syntax.Flags.{mark, of_constant, of_type}
+use Rattle.ir_trees.specs.Instantiation.Folds.{IsArg, IsOfKind, arg_tree}
+use Rattle.ir_trees.specs.Syntax.Kinds.{arg_kind, arg_number}
+use Rattle.ir_trees.specs.Unification.Substitutions.{alone, fits_sort, is_constant_kind, is_placeholder_above, same_variable}
+use Rattle.ir_trees.specs.Syntax.Trees.{Forest, none, tree, Kind, ConstantKind, Tree, binders_of, erase, erased_head, holds, tree_holds, kind_of, is_type_kind, sort_kind, is_number}
+use Rattle.ir_trees.proofs.Instantiation.Folding.{fold-nothing}
+use Rattle.ir_trees.proofs.Syntax.Rows.{kind-of}
 use Rattle.candidate_eval.specs.declared.eval.mode.TypingMode.{TypingMode}
 use Rattle.candidate_eval.specs.declared.eval.variable.VariableKind.{VariableKind}
 use Rattle.candidate_eval.specs.declared.eval.variable.VariableKind.TheVariants.{Term}

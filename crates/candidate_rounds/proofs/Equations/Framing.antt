@@ -2,11 +2,11 @@
 use Rattle.std.proofs.Common.{◌≡◌, ℕ, ◌≤◌, Bool, true, false, ◌&&◌, List, [], ◌∷◌, ◌++◌, length, map, reverse, Result, Ok, Err, OnOk, refl, sym, ◌∙◌, ap, subst, arith, if◌then◌else◌}
 use Rattle.std.proofs.lemmas.List.{reverse-append, take-append-le, length-append}
 use Rattle.std.proofs.Math.Seq.{take-length}
-use Rattle.candidate_ir.specs.declared.ir.heads.Head.{Head}
-use Rattle.candidate_ir.specs.Syntax.Nodes.{Extends, tree_at}
-use Rattle.candidate_ir.specs.Syntax.Trees.{Forest, Tree, skip}
-use Rattle.candidate_ir.specs.Unification.Unify.{same_head}
-use Rattle.candidate_ir.proofs.Growth.Kept.{number-kept}
+use Rattle.ir_trees.specs.declared.ir.heads.Head.{Head}
+use Rattle.ir_trees.specs.Syntax.Nodes.{Extends, tree_at}
+use Rattle.ir_trees.specs.Syntax.Trees.{Forest, Tree, skip}
+use Rattle.ir_trees.specs.Unification.Unify.{same_head}
+use Rattle.ir_trees.proofs.Growth.Kept.{number-kept}
 use Rattle.candidate_eval.specs.Judges.States.{State, with_universe}
 use Rattle.candidate_eval.specs.Judges.Soundness.{is_region}
 use Rattle.candidate_rounds.specs.declared.rounds.equating.Frame.{Frame}

@@ -2,24 +2,24 @@
 use Rattle.std.proofs.Common.{◌⊎◌, inl, inr, arith, ◌≡◌, ◌<◌, ◌≤◌, ◌+◌, ℕ, Bool, true, false, ◌&&◌, List, [], ◌∷◌, ◌++◌, append_assoc, length, take, slice_index_or, Option, Some, None, Result, Ok, Err, OnOk, refl, ap, sym, subst, ◌∙◌}
 use Rattle.std.specs.Prelude.{IfErr, IfOk}
 use Rattle.std.proofs.lemmas.List.{append-nil, map-append}
-use Rattle.candidate_ir.specs.declared.ir.kinds.Args.{Args}
-use Rattle.candidate_ir.specs.declared.ir.kinds.GenericArg.{GenericArg}
-use Rattle.candidate_ir.specs.declared.ir.kinds.ParamEnv.{ParamEnv}
-use Rattle.candidate_ir.specs.declared.ir.kinds.Ty.{Ty}
-use Rattle.candidate_ir.specs.declared.ir.stop.Stop.{Stop}
-use Rattle.candidate_ir.specs.declared.ir.kinds.GenericArg.TheVariants as G
-use Rattle.candidate_ir.specs.Declarations.Context.{Context, Grows}
-use Rattle.candidate_ir.specs.declared.ir.heads.VariableSort.TheVariants.{General}
-use Rattle.candidate_ir.specs.Instantiation.Folding.{few_numbers, high_tree, no_memory}
-use Rattle.candidate_ir.specs.Instantiation.Folds.{IsArg, arg_tree}
-use Rattle.candidate_ir.specs.Syntax.Kinds.{arg_kind, arg_number}
-use Rattle.candidate_ir.specs.Syntax.Trees.{ConstantKind, Forest, RegionKind, Tree, TypeKind, heights, is_alias, is_type, is_type_kind, kind_of, none}
-use Rattle.candidate_ir.specs.Syntax.Words.{IsMkStop, IsParamEnv, IsTy, args_forest, env_forest, list_forest, ty_tree}
-use Rattle.candidate_ir.specs.Unification.Substitutions.{alone}
+use Rattle.ir_trees.specs.declared.ir.kinds.Args.{Args}
+use Rattle.ir_trees.specs.declared.ir.kinds.GenericArg.{GenericArg}
+use Rattle.ir_trees.specs.declared.ir.kinds.ParamEnv.{ParamEnv}
+use Rattle.ir_trees.specs.declared.ir.kinds.Ty.{Ty}
+use Rattle.ir_trees.specs.declared.ir.stop.Stop.{Stop}
+use Rattle.ir_trees.specs.declared.ir.kinds.GenericArg.TheVariants as G
+use Rattle.ir_trees.specs.Declarations.Context.{Context, Grows}
+use Rattle.ir_trees.specs.declared.ir.heads.VariableSort.TheVariants.{General}
+use Rattle.ir_trees.specs.Instantiation.Folding.{few_numbers, high_tree, no_memory}
+use Rattle.ir_trees.specs.Instantiation.Folds.{IsArg, arg_tree}
+use Rattle.ir_trees.specs.Syntax.Kinds.{arg_kind, arg_number}
+use Rattle.ir_trees.specs.Syntax.Trees.{ConstantKind, Forest, RegionKind, Tree, TypeKind, heights, is_alias, is_type, is_type_kind, kind_of, none}
+use Rattle.ir_trees.specs.Syntax.Words.{IsMkStop, IsParamEnv, IsTy, args_forest, env_forest, list_forest, ty_tree}
+use Rattle.ir_trees.specs.Unification.Substitutions.{alone}
 use Rattle.candidate_eval.specs.declared.eval.refusal.NoSolutionOrStop.{NoSolutionOrStop}
 use Rattle.candidate_eval.specs.Interface.Accounts.{if_refused, if_stopped}
 use Rattle.candidate_eval.specs.Interface.Evaluators.{pending_of, pendings_of, with_left}
-use Rattle.candidate_ir.proofs.Syntax.Rows.{kind-of}
+use Rattle.ir_trees.proofs.Syntax.Rows.{kind-of}
 use Rattle.candidate_eval.specs.declared.eval.variable.VariableKind.TheVariants.{Term}
 use Rattle.candidate_eval.specs.Interface.Evaluators.{NoFault}
 use Rattle.candidate_eval.proofs.Dynamic.Objects.{env-kept}

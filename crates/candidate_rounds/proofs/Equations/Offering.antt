@@ -1,16 +1,16 @@
 -- A variable that meets a tree: whether it takes it, by numbers.
 use Rattle.std.proofs.Common.{◌≡◌, ◌+◌, ◌&&◌, Bool, true, false, List, Option, Some, None, Result, Ok, Err, OnOk, reverse, refl, sym, ◌∙◌, ap, if◌then◌else◌}
 use Rattle.std.specs.Option.{unwrap_or}
-use Rattle.candidate_ir.specs.declared.ir.heads.Head.{Head}
-use Rattle.candidate_ir.specs.declared.ir.heads.Head.TheVariants as H
-use Rattle.candidate_ir.specs.declared.ir.heads.Variable.{Variable}
-use Rattle.candidate_ir.specs.declared.ir.heads.VariableSort.{VariableSort}
-use Rattle.candidate_ir.specs.declared.ir.heads.VariableSort.TheVariants as V
-use Rattle.candidate_ir.specs.declared.ir.kinds.Ty.{Ty}
-use Rattle.candidate_ir.specs.Instantiation.Folding.{Answers, fold, fold_tree}
-use Rattle.candidate_ir.specs.Instantiation.Folds.{is_asked, is_asked_kind}
-use Rattle.candidate_ir.specs.Unification.Substitutions.{fits_sort, is_constant_kind}
-use Rattle.candidate_ir.specs.Syntax.Trees.{Kind, TypeKind, ConstantKind, Tree, binders_of, is_type_kind, kind_of}
+use Rattle.ir_trees.specs.declared.ir.heads.Head.{Head}
+use Rattle.ir_trees.specs.declared.ir.heads.Head.TheVariants as H
+use Rattle.ir_trees.specs.declared.ir.heads.Variable.{Variable}
+use Rattle.ir_trees.specs.declared.ir.heads.VariableSort.{VariableSort}
+use Rattle.ir_trees.specs.declared.ir.heads.VariableSort.TheVariants as V
+use Rattle.ir_trees.specs.declared.ir.kinds.Ty.{Ty}
+use Rattle.ir_trees.specs.Instantiation.Folding.{Answers, fold, fold_tree}
+use Rattle.ir_trees.specs.Instantiation.Folds.{is_asked, is_asked_kind}
+use Rattle.ir_trees.specs.Unification.Substitutions.{fits_sort, is_constant_kind}
+use Rattle.ir_trees.specs.Syntax.Trees.{Kind, TypeKind, ConstantKind, Tree, binders_of, is_type_kind, kind_of}
 use Rattle.candidate_eval.specs.declared.eval.variable.VariableKind.TheVariants.{Term}
 use Rattle.candidate_eval.specs.Judges.States.{State, has_kind, resolved_tree, value_at}
 use Rattle.candidate_eval.specs.Judges.Alike.{info}

@@ -1,17 +1,17 @@
 -- Fresh variables for open parts: each is of its part's kind.
 use Rattle.std.proofs.Common.{◌≡◌, ◌⊎◌, inl, inr, ℕ, Bool, true, false, if◌then◌else◌, Some, None, List, [], ◌∷◌, ◌++◌, ◌||◌, not, length, map, refl, sym, ap, subst, ◌∙◌}
-use Rattle.candidate_ir.specs.declared.ir.kinds.GenericArg.{GenericArg}
-use Rattle.candidate_ir.specs.declared.ir.kinds.GenericArg.TheVariants as A
-use Rattle.candidate_ir.specs.declared.ir.kinds.VarKind.{VarKind}
-use Rattle.candidate_ir.specs.declared.ir.stop.Stop.{Stop}
-use Rattle.candidate_ir.specs.Declarations.Context.{Context, Grows}
+use Rattle.ir_trees.specs.declared.ir.kinds.GenericArg.{GenericArg}
+use Rattle.ir_trees.specs.declared.ir.kinds.GenericArg.TheVariants as A
+use Rattle.ir_trees.specs.declared.ir.kinds.VarKind.{VarKind}
+use Rattle.ir_trees.specs.declared.ir.stop.Stop.{Stop}
+use Rattle.ir_trees.specs.Declarations.Context.{Context, Grows}
 use Rattle.candidate_eval.specs.Interface.Evaluators.{kinds_listed}
 use Rattle.std.specs.List.{All}
 use Rattle.std.proofs.lemmas.Bool.{and_parts}
 use Rattle.std.proofs.lemmas.List.{length-map}
 use Rattle.std.proofs.lemmas.List.Elements.{All-append, All-cons, All-head, All-nil, All-tail}
-use Rattle.candidate_ir.specs.Instantiation.Folds.{node}
-use Rattle.candidate_ir.specs.Syntax.Binders.{escapes}
+use Rattle.ir_trees.specs.Instantiation.Folds.{node}
+use Rattle.ir_trees.specs.Syntax.Binders.{escapes}
 use Rattle.candidate_eval.specs.Judges.Lawful.{is_type_or_constant}
 use Rattle.candidate_rounds.specs.Table.Goals.{Each}
 use Rattle.rounds_judge.specs.Aliases.OpenParts.{first_or, has_loose_alias, is_among, is_closed_term, is_open_part, kinds_of, paired, with_part, with_parts}
@@ -19,16 +19,16 @@ use Rattle.rounds_judge.specs.Aliases.Listed.{listed_in}
 use Rattle.candidate_rounds.specs.Evaluators.Inferences.{IsFullAt, IsOutOfRoom}
 use Rattle.candidate_rounds.specs.Evaluators.Stopping.{IsVariablesStop, variables_entered, variables_made}
 use Rattle.candidate_rounds.proofs.Equations.OpenParts.{kinds-are}
-use Rattle.candidate_ir.specs.Hierarchy.Elaboration.{same_tree}
-use Rattle.candidate_ir.specs.Hierarchy.Supers.{after_first}
-use Rattle.candidate_ir.specs.Instantiation.Folds.{IsArg, arg_tree, is_asked, is_asked_kind}
-use Rattle.candidate_ir.proofs.Hierarchy.Elaboration.{tree_is}
-use Rattle.candidate_ir.specs.Syntax.Kinds.{arg_kind, arg_number}
-use Rattle.candidate_ir.specs.Syntax.Nodes.{Extends, kind_at}
-use Rattle.candidate_ir.specs.Syntax.Trees.{Forest, Kind, none, tree, Tree, is_alias, kind_of}
-use Rattle.candidate_ir.specs.Syntax.Words.{ListFits, list_forest}
-use Rattle.candidate_ir.proofs.Hierarchy.Implying.{arg-kept}
-use Rattle.candidate_ir.proofs.Syntax.Rows.{kind-of}
+use Rattle.ir_trees.specs.Hierarchy.Elaboration.{same_tree}
+use Rattle.ir_trees.specs.Hierarchy.Supers.{after_first}
+use Rattle.ir_trees.specs.Instantiation.Folds.{IsArg, arg_tree, is_asked, is_asked_kind}
+use Rattle.ir_context.proofs.Hierarchy.Elaboration.{tree_is}
+use Rattle.ir_trees.specs.Syntax.Kinds.{arg_kind, arg_number}
+use Rattle.ir_trees.specs.Syntax.Nodes.{Extends, kind_at}
+use Rattle.ir_trees.specs.Syntax.Trees.{Forest, Kind, none, tree, Tree, is_alias, kind_of}
+use Rattle.ir_trees.specs.Syntax.Words.{ListFits, list_forest}
+use Rattle.ir_folds.proofs.Hierarchy.Implying.{arg-kept}
+use Rattle.ir_trees.proofs.Syntax.Rows.{kind-of}
 use Rattle.candidate_eval.specs.Judges.States.{State, fresh_variables, variable, variable_kind, with_fresh}
 use Rattle.candidate_rounds.specs.Calls.Opening.{AreArgs, ArePaired, IsPair, opened_answers, pairs_at, trees_of}
 use Rattle.candidate_rounds.proofs.Obligations.Noting.{arg-row}

@@ -2,11 +2,11 @@
 use Rattle.std.proofs.Common.{◌≡◌, ◌<◌, ◌++◌, ◌||◌, ◌∷◌, [], ℕ, Bool, false, List, Option, Some, None, length, take, reverse, refl, sym, ◌∙◌, ap, subst}
 use Rattle.std.specs.Option.{option_map}
 use Rattle.std.proofs.lemmas.List.{length-take-le}
-use Rattle.candidate_ir.specs.declared.ir.heads.Head.{Head}
-use Rattle.candidate_ir.specs.declared.ir.heads.Head.TheVariants as H
-use Rattle.candidate_ir.specs.Instantiation.Folds.{arg_tree}
-use Rattle.candidate_ir.specs.Syntax.Nodes.{tree_at}
-use Rattle.candidate_ir.specs.Syntax.Trees.{none, Tree, holds, is_alias, skip, tree_holds}
+use Rattle.ir_trees.specs.declared.ir.heads.Head.{Head}
+use Rattle.ir_trees.specs.declared.ir.heads.Head.TheVariants as H
+use Rattle.ir_trees.specs.Instantiation.Folds.{arg_tree}
+use Rattle.ir_trees.specs.Syntax.Nodes.{tree_at}
+use Rattle.ir_trees.specs.Syntax.Trees.{none, Tree, holds, is_alias, skip, tree_holds}
 use Rattle.candidate_eval.specs.declared.eval.mode.TypingMode.{TypingMode}
 use Rattle.candidate_eval.specs.Interface.Evaluators.{root_value}
 use Rattle.candidate_eval.specs.Judges.States.{State, is_some}

@@ -1,7 +1,7 @@
 -- What holds of an evaluator between calls, taken apart and put together.
 use Rattle.std.proofs.Common.{ℕ, List}
-use Rattle.candidate_ir.specs.Declarations.Context.{Context}
-use Rattle.candidate_ir.specs.declared.ir.kinds.AliasTy.{AliasTy}
+use Rattle.ir_trees.specs.Declarations.Context.{Context}
+use Rattle.ir_trees.specs.declared.ir.kinds.AliasTy.{AliasTy}
 use Rattle.candidate_rounds.specs.Table.Goals.{Goals}
 use Rattle.candidate_rounds.specs.Evaluators.Inferences.{Inference}
 use Rattle.candidate_rounds.specs.Evaluators.Known.{EvaluatorParts, IsEvaluator, NormalForms}

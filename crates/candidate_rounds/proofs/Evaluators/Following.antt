@@ -1,6 +1,6 @@
 -- The laws of the judge, of an evaluator's calls; and the state of a new evaluator is sound.
 use Rattle.std.proofs.Common.{Result, Ok, Err, OnOk, IfOk, ◌≡◌, ℕ, Bool, true, false, List, [], ◌++◌, Option, Some, None, refl, sym, ◌∙◌, ap, slice_get}
-use Rattle.candidate_ir.specs.Syntax.Trees.{Forest, none}
+use Rattle.ir_trees.specs.Syntax.Trees.{Forest, none}
 use Rattle.candidate_eval.specs.Judges.Alike.{info}
 use Rattle.candidate_eval.specs.declared.eval.certainty.Certainty.{Certainty}
 use Rattle.candidate_eval.specs.Judges.Lawful.{Lawful}

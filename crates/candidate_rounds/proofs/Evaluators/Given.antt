@@ -2,16 +2,16 @@
 use Rattle.std.proofs.Common.{◌≡◌, ℕ, Bool, true, false, not, List, [], ◌∷◌, if◌then◌else◌, refl, sym, ◌∙◌, ap, subst}
 use Rattle.std.specs.Prelude.{◌&&◌, ◌||◌, ◌↔◌, IsTrue}
 use Rattle.std.proofs.lemmas.Bool.{and_parts, not-true}
-use Rattle.candidate_ir.specs.declared.ir.kinds.AliasTy.{AliasTy}
-use Rattle.candidate_ir.specs.declared.ir.kinds.TyKind.TheVariants as K
-use Rattle.candidate_ir.specs.Syntax.Binders.{escapes}
-use Rattle.candidate_ir.specs.Syntax.Nodes.{kind_at, tree_at}
-use Rattle.candidate_ir.specs.Instantiation.Owned.{is_unsolved}
-use Rattle.candidate_ir.specs.Unification.Substitutions.{alone}
-use Rattle.candidate_ir.specs.Syntax.Trees.{ArgumentsKind, Forest, none, Tree, TypeKind, holds, is_alias, is_param, is_type, is_type_kind, tree_holds}
-use Rattle.candidate_ir.specs.Syntax.Words.{IsArgs, args_forest, kind_tree}
-use Rattle.candidate_ir.proofs.Syntax.Lists.{below_kind, kind_of-tree_at}
-use Rattle.candidate_ir.proofs.Syntax.Rows.{join-none, row-list}
+use Rattle.ir_trees.specs.declared.ir.kinds.AliasTy.{AliasTy}
+use Rattle.ir_trees.specs.declared.ir.kinds.TyKind.TheVariants as K
+use Rattle.ir_trees.specs.Syntax.Binders.{escapes}
+use Rattle.ir_trees.specs.Syntax.Nodes.{kind_at, tree_at}
+use Rattle.ir_trees.specs.Instantiation.Owned.{is_unsolved}
+use Rattle.ir_trees.specs.Unification.Substitutions.{alone}
+use Rattle.ir_trees.specs.Syntax.Trees.{ArgumentsKind, Forest, none, Tree, TypeKind, holds, is_alias, is_param, is_type, is_type_kind, tree_holds}
+use Rattle.ir_trees.specs.Syntax.Words.{IsArgs, args_forest, kind_tree}
+use Rattle.ir_trees.proofs.Syntax.Lists.{below_kind, kind_of-tree_at}
+use Rattle.ir_trees.proofs.Syntax.Rows.{join-none, row-list}
 use Rattle.std.proofs.lemmas.List.Elements.{All-head}
 use Rattle.rounds_judge.proofs.Aliases.WellListed.{well-listed}
 use Rattle.rounds_judge.specs.Equations.Standing.{IsListed, IsListing}

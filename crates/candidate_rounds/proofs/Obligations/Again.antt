@@ -1,9 +1,9 @@
 -- Numbers that are noted again: below numbers that were walked there are none but those that are noted.
 use Rattle.std.proofs.Common.{◌≡◌, ◌==◌, ℕ, Bool, true, false, not, List, [], ◌∷◌, ◌++◌, Option, Some, None, Result, Ok, Err, refl, sym, ◌∙◌, ap, subst, if◌then◌else◌}
 use Rattle.std.specs.Prelude.{◌||◌, IfOk}
-use Rattle.candidate_ir.specs.declared.ir.heads.Head.{Head}
-use Rattle.candidate_ir.specs.Syntax.Nodes.{tree_at}
-use Rattle.candidate_ir.specs.Syntax.Trees.{Forest, none, tree, Tree, holds, variable_number}
+use Rattle.ir_trees.specs.declared.ir.heads.Head.{Head}
+use Rattle.ir_trees.specs.Syntax.Nodes.{tree_at}
+use Rattle.ir_trees.specs.Syntax.Trees.{Forest, none, tree, Tree, holds, variable_number}
 use Rattle.candidate_eval.proofs.Marks.Holds.{holds_imply, holds_parts}
 use Rattle.rounds_judge.specs.Obligations.Responding.{is_seen, with_number, with_numbers}
 use Rattle.rounds_judge.specs.Table.TableSettling.{are_bare}

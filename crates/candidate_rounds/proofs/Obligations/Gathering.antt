@@ -4,19 +4,19 @@ use Rattle.std.specs.Prelude.{IfOk, IfSome, Result, Ok, Err}
 use Rattle.std.specs.Option.{option_map, option_to_list, unwrap_or}
 use Rattle.std.proofs.lemmas.List.{append-nil}
 use Rattle.std.proofs.lemmas.Option.{slice_get-map}
-use Rattle.candidate_ir.specs.declared.ir.kinds.Args.{Args}
-use Rattle.candidate_ir.specs.declared.ir.kinds.Clause.{Clause}
-use Rattle.candidate_ir.specs.declared.ir.kinds.GenericArg.{GenericArg}
-use Rattle.candidate_ir.specs.Declarations.Context.{Context, Grows}
-use Rattle.candidate_ir.specs.Instantiation.Folds.{IsArg, arg_tree}
-use Rattle.candidate_ir.specs.Syntax.Kinds.{arg_child, numbers}
-use Rattle.candidate_ir.specs.Syntax.Nodes.{clause_child, kinds_at, trees_at}
-use Rattle.candidate_ir.specs.Syntax.Trees.{Forest, tree, Tree, ClauseKind}
-use Rattle.candidate_ir.specs.Syntax.Words.{ClauseListFits, IsArgs, IsClause, ListFits, args_forest, clause_tree, list_forest}
-use Rattle.candidate_ir.proofs.Instantiation.Folding.{begin}
-use Rattle.candidate_ir.proofs.Growth.Kept.{args-kept, grows-trans}
-use Rattle.candidate_ir.proofs.Syntax.Lists.{trees_at-append}
-use Rattle.candidate_ir.proofs.Growth.Made.{ListFits-grows}
+use Rattle.ir_trees.specs.declared.ir.kinds.Args.{Args}
+use Rattle.ir_trees.specs.declared.ir.kinds.Clause.{Clause}
+use Rattle.ir_trees.specs.declared.ir.kinds.GenericArg.{GenericArg}
+use Rattle.ir_trees.specs.Declarations.Context.{Context, Grows}
+use Rattle.ir_trees.specs.Instantiation.Folds.{IsArg, arg_tree}
+use Rattle.ir_trees.specs.Syntax.Kinds.{arg_child, numbers}
+use Rattle.ir_trees.specs.Syntax.Nodes.{clause_child, kinds_at, trees_at}
+use Rattle.ir_trees.specs.Syntax.Trees.{Forest, tree, Tree, ClauseKind}
+use Rattle.ir_trees.specs.Syntax.Words.{ClauseListFits, IsArgs, IsClause, ListFits, args_forest, clause_tree, list_forest}
+use Rattle.ir_trees.proofs.Instantiation.Folding.{begin}
+use Rattle.ir_trees.proofs.Growth.Kept.{args-kept, grows-trans}
+use Rattle.ir_trees.proofs.Syntax.Lists.{trees_at-append}
+use Rattle.ir_trees.proofs.Growth.Made.{ListFits-grows}
 use Rattle.candidate_eval.specs.declared.eval.variable.VariableKind.{VariableKind}
 use Rattle.candidate_eval.specs.declared.eval.variable.VariableKind.TheVariants.{Term, Region}
 use Rattle.candidate_eval.specs.Judges.States.{State, resolved, resolved_tree, same_kind, variable}

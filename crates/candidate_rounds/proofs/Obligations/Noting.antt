@@ -2,19 +2,19 @@
 use Rattle.std.proofs.Common.{◌≡◌, ◌≤◌, ◌<◌, ◌+◌, ◌==◌, ℕ, zero, suc, Bool, true, false, List, [], ◌∷◌, ◌++◌, length, map, drop, slice_index_or, Option, Some, None, refl, sym, ◌∙◌, ap, subst, arith, if◌then◌else◌}
 use Rattle.std.specs.Option.{unwrap_or}
 use Rattle.std.proofs.lemmas.Bool.{eqb-true}
-use Rattle.candidate_ir.specs.declared.ir.heads.Head.{Head}
-use Rattle.candidate_ir.specs.declared.ir.kinds.GenericArg.{GenericArg}
-use Rattle.candidate_ir.specs.declared.ir.kinds.GenericArg.TheVariants as A
-use Rattle.candidate_ir.specs.Instantiation.Folding.{fold}
-use Rattle.candidate_ir.specs.Instantiation.Folds.{IsArg, arg_tree, node}
-use Rattle.candidate_ir.specs.Syntax.Kinds.{arg_child, arg_kind, arg_number, numbers}
-use Rattle.candidate_ir.specs.Syntax.Nodes.{kind_at, tree_at, trees_at}
-use Rattle.candidate_ir.specs.Unification.Substitutions.{alone}
-use Rattle.candidate_ir.specs.Syntax.Trees.{Forest, none, tree, Tree, binders_of, is_list_kind, put, row, skip, variable_number}
-use Rattle.candidate_ir.specs.Syntax.Words.{ListFits, list_forest}
-use Rattle.candidate_ir.proofs.Traversal.Asking.{arg-below}
-use Rattle.candidate_ir.proofs.Instantiation.Folding.{begin}
-use Rattle.candidate_ir.proofs.Syntax.Rows.{kind-of}
+use Rattle.ir_trees.specs.declared.ir.heads.Head.{Head}
+use Rattle.ir_trees.specs.declared.ir.kinds.GenericArg.{GenericArg}
+use Rattle.ir_trees.specs.declared.ir.kinds.GenericArg.TheVariants as A
+use Rattle.ir_trees.specs.Instantiation.Folding.{fold}
+use Rattle.ir_trees.specs.Instantiation.Folds.{IsArg, arg_tree, node}
+use Rattle.ir_trees.specs.Syntax.Kinds.{arg_child, arg_kind, arg_number, numbers}
+use Rattle.ir_trees.specs.Syntax.Nodes.{kind_at, tree_at, trees_at}
+use Rattle.ir_trees.specs.Unification.Substitutions.{alone}
+use Rattle.ir_trees.specs.Syntax.Trees.{Forest, none, tree, Tree, binders_of, is_list_kind, put, row, skip, variable_number}
+use Rattle.ir_trees.specs.Syntax.Words.{ListFits, list_forest}
+use Rattle.ir_trees.proofs.Traversal.Asking.{arg-below}
+use Rattle.ir_trees.proofs.Instantiation.Folding.{begin}
+use Rattle.ir_trees.proofs.Syntax.Rows.{kind-of}
 use Rattle.rounds_judge.specs.Obligations.Responding.{is_seen, renumbered, with_number, with_numbers, with_numbers_of}
 use Rattle.candidate_rounds.proofs.Obligations.Anew.{answers, fold-is, no-variable}
 use Rattle.candidate_rounds.proofs.Snapshots.Knowing.{there-arg}

@@ -1,29 +1,29 @@
 -- Projection clauses as they are read: the alias, and the term.
 use Rattle.std.proofs.Common.{◌≡◌, List, [], ◌∷◌, ◌++◌, Option, Some, refl, sym, ◌∙◌, ap, subst}
-use Rattle.candidate_ir.specs.declared.ir.heads.Head.TheVariants as H
-use Rattle.candidate_ir.specs.declared.ir.heads.PartHead.TheVariants as P
-use Rattle.candidate_ir.specs.declared.ir.heads.ClauseHead.TheVariants as Cl
-use Rattle.candidate_ir.specs.declared.ir.kinds.Binder.{Binder}
-use Rattle.candidate_ir.specs.declared.ir.kinds.Clause.{Clause}
-use Rattle.candidate_ir.specs.declared.ir.kinds.ClauseKind.{ClauseKind}
-use Rattle.candidate_ir.specs.declared.ir.kinds.ClauseKind.TheVariants as K
-use Rattle.candidate_ir.specs.declared.ir.kinds.Const.{Const}
-use Rattle.candidate_ir.specs.declared.ir.kinds.GenericArg.{GenericArg}
-use Rattle.candidate_ir.specs.declared.ir.kinds.ProjectionPredicate.{ProjectionPredicate}
-use Rattle.candidate_ir.specs.declared.ir.kinds.Ty.{Ty}
-use Rattle.candidate_ir.specs.Declarations.Context.{Context, world}
-use Rattle.candidate_ir.specs.Syntax.Kinds.{clause_head, fact_children, numbers}
-use Rattle.candidate_ir.specs.Syntax.Nodes.{tree_at, trees_at, rows}
-use Rattle.candidate_ir.specs.Declarations.References.{IsWellFormed, FitsAmong}
-use Rattle.candidate_ir.specs.Unification.Substitutions.{alone}
-use Rattle.candidate_ir.specs.Hierarchy.Supers.{after_first}
-use Rattle.candidate_ir.specs.Syntax.Trees.{Kind, TypeKind, ConstantKind, BinderKind, ArgumentsKind, Forest, none, tree, Tree, join, kind_of}
-use Rattle.candidate_ir.specs.Syntax.Words.{IsArgs, IsConst, IsTy, ClauseFits, KindFits, args_forest, clause_tree, clause_kind_tree, const_tree, kind_tree, ty_tree, vars_tree}
-use Rattle.candidate_ir.specs.Declarations.Worlds.{AssociatedTypeSort, joined, kinds_of, parameters}
-use Rattle.candidate_ir.proofs.Kinding.Arity.{first-iff, last-iff}
-use Rattle.candidate_ir.proofs.Instantiation.Joining.{below_binder, clause-over, over}
-use Rattle.candidate_ir.proofs.Kinding.References.{fit-at}
-use Rattle.candidate_ir.proofs.Syntax.Rows.{join-none, kind-of, row-list, row-single}
+use Rattle.ir_trees.specs.declared.ir.heads.Head.TheVariants as H
+use Rattle.ir_trees.specs.declared.ir.heads.PartHead.TheVariants as P
+use Rattle.ir_trees.specs.declared.ir.heads.ClauseHead.TheVariants as Cl
+use Rattle.ir_trees.specs.declared.ir.kinds.Binder.{Binder}
+use Rattle.ir_trees.specs.declared.ir.kinds.Clause.{Clause}
+use Rattle.ir_trees.specs.declared.ir.kinds.ClauseKind.{ClauseKind}
+use Rattle.ir_trees.specs.declared.ir.kinds.ClauseKind.TheVariants as K
+use Rattle.ir_trees.specs.declared.ir.kinds.Const.{Const}
+use Rattle.ir_trees.specs.declared.ir.kinds.GenericArg.{GenericArg}
+use Rattle.ir_trees.specs.declared.ir.kinds.ProjectionPredicate.{ProjectionPredicate}
+use Rattle.ir_trees.specs.declared.ir.kinds.Ty.{Ty}
+use Rattle.ir_trees.specs.Declarations.Context.{Context, world}
+use Rattle.ir_trees.specs.Syntax.Kinds.{clause_head, fact_children, numbers}
+use Rattle.ir_trees.specs.Syntax.Nodes.{tree_at, trees_at, rows}
+use Rattle.ir_trees.specs.Declarations.References.{IsWellFormed, FitsAmong}
+use Rattle.ir_trees.specs.Unification.Substitutions.{alone}
+use Rattle.ir_trees.specs.Hierarchy.Supers.{after_first}
+use Rattle.ir_trees.specs.Syntax.Trees.{Kind, TypeKind, ConstantKind, BinderKind, ArgumentsKind, Forest, none, tree, Tree, join, kind_of}
+use Rattle.ir_trees.specs.Syntax.Words.{IsArgs, IsConst, IsTy, ClauseFits, KindFits, args_forest, clause_tree, clause_kind_tree, const_tree, kind_tree, ty_tree, vars_tree}
+use Rattle.ir_trees.specs.Declarations.Worlds.{AssociatedTypeSort, joined, kinds_of, parameters}
+use Rattle.ir_trees.proofs.Kinding.Arity.{first-iff, last-iff}
+use Rattle.ir_folds.proofs.Instantiation.Joining.{below_binder, clause-over, over}
+use Rattle.ir_trees.proofs.Kinding.References.{fit-at}
+use Rattle.ir_trees.proofs.Syntax.Rows.{join-none, kind-of, row-list, row-single}
 use Rattle.rounds_judge.specs.Obligations.Settling.{alias_of, arguments_of, last_or, term_of, without_last}
 use Rattle.candidate_rounds.specs.Table.Trying.{IsProjection, IsRelation, Says, projection_of}
 

@@ -1,21 +1,21 @@
 -- Lists of variables and placeholders, made one after another.
 use Rattle.std.proofs.Common.{◌≡◌, ℕ, suc, ◌+◌, ◌<◌, ◌≤◌, List, [], ◌∷◌, ◌++◌, length, drop, map, slice_index_or, append_assoc, refl, sym, ◌∙◌, ap, subst, arith}
 use Rattle.std.proofs.lemmas.List.{length-append, append-nil}
-use Rattle.candidate_ir.specs.declared.ir.kinds.GenericArg.{GenericArg}
-use Rattle.candidate_ir.specs.declared.ir.kinds.VarKind.{VarKind}
-use Rattle.candidate_ir.specs.declared.ir.kinds.VarKind.TheVariants as K
-use Rattle.candidate_ir.specs.Declarations.Context.{Context, Grows}
-use Rattle.candidate_ir.specs.Instantiation.Folds.{IsArg, arg_tree}
-use Rattle.candidate_ir.specs.Syntax.Kinds.{arg_child, arg_number, arg_kind, numbers}
-use Rattle.candidate_ir.specs.Syntax.Nodes.{kind_at, trees_at, kinds_at, rows}
-use Rattle.candidate_ir.specs.Syntax.Trees.{TypeKind, ConstantKind, RegionKind, none, tree, Tree}
-use Rattle.candidate_ir.specs.Syntax.Words.{ListFits, list_forest}
-use Rattle.candidate_ir.specs.Syntax.Table.{Below}
-use Rattle.candidate_ir.proofs.Traversal.Asking.{arg-below}
-use Rattle.candidate_ir.proofs.Growth.Kept.{grows-trans}
-use Rattle.candidate_ir.proofs.Syntax.Lists.{trees_at-append}
-use Rattle.candidate_ir.proofs.Growth.Made.{ListFits-grows}
-use Rattle.candidate_ir.specs.declared.ir.heads.VariableSort.TheVariants as V
+use Rattle.ir_trees.specs.declared.ir.kinds.GenericArg.{GenericArg}
+use Rattle.ir_trees.specs.declared.ir.kinds.VarKind.{VarKind}
+use Rattle.ir_trees.specs.declared.ir.kinds.VarKind.TheVariants as K
+use Rattle.ir_trees.specs.Declarations.Context.{Context, Grows}
+use Rattle.ir_trees.specs.Instantiation.Folds.{IsArg, arg_tree}
+use Rattle.ir_trees.specs.Syntax.Kinds.{arg_child, arg_number, arg_kind, numbers}
+use Rattle.ir_trees.specs.Syntax.Nodes.{kind_at, trees_at, kinds_at, rows}
+use Rattle.ir_trees.specs.Syntax.Trees.{TypeKind, ConstantKind, RegionKind, none, tree, Tree}
+use Rattle.ir_trees.specs.Syntax.Words.{ListFits, list_forest}
+use Rattle.ir_trees.specs.Syntax.Table.{Below}
+use Rattle.ir_trees.proofs.Traversal.Asking.{arg-below}
+use Rattle.ir_trees.proofs.Growth.Kept.{grows-trans}
+use Rattle.ir_trees.proofs.Syntax.Lists.{trees_at-append}
+use Rattle.ir_trees.proofs.Growth.Made.{ListFits-grows}
+use Rattle.ir_trees.specs.declared.ir.heads.VariableSort.TheVariants as V
 use Rattle.candidate_eval.specs.declared.eval.variable.VariableKind.{VariableKind}
 use Rattle.candidate_eval.specs.declared.eval.variable.VariableKind.TheVariants.{Term, Region}
 use Rattle.candidate_eval.specs.Judges.States.{State, fresh_variables, with_fresh, fresh_info, variable, placeholder, placeholders}

@@ -1,16 +1,16 @@
 -- Normal forms by numbers.
 use Rattle.std.proofs.Common.{◌&&◌, ◌⊎◌, inl, inr, ◌≡◌, ℕ, zero, suc, ◌+◌, ◌<◌, ◌≤◌, get_or, Bool, true, false, List, [], ◌∷◌, length, drop, Some, None, Result, Ok, Err, IfOk, refl, sym, ◌∙◌, ap, subst, arith, add-one, if◌then◌else◌}
 use Rattle.std.specs.Option.{unwrap_or}
-use Rattle.candidate_ir.specs.declared.ir.kinds.Const.{Const}
-use Rattle.candidate_ir.specs.declared.ir.kinds.Ty.{Ty}
-use Rattle.candidate_ir.specs.declared.ir.stop.Stop.{Stop}
-use Rattle.candidate_ir.specs.Declarations.Context.{Grows}
-use Rattle.candidate_ir.specs.Hierarchy.Elaboration.{same_tree}
-use Rattle.candidate_ir.specs.Syntax.Trees.{Tree, ConstantKind, TypeKind, kind_of, is_alias, is_type, is_type_kind}
-use Rattle.candidate_ir.specs.Syntax.Words.{IsConst, const_tree, ty_tree}
-use Rattle.candidate_ir.proofs.Hierarchy.Elaboration.{tree_is, tree_itself}
-use Rattle.candidate_ir.proofs.Growth.Kept.{ty-kept}
-use Rattle.candidate_ir.proofs.Syntax.Rows.{kind-of}
+use Rattle.ir_trees.specs.declared.ir.kinds.Const.{Const}
+use Rattle.ir_trees.specs.declared.ir.kinds.Ty.{Ty}
+use Rattle.ir_trees.specs.declared.ir.stop.Stop.{Stop}
+use Rattle.ir_trees.specs.Declarations.Context.{Grows}
+use Rattle.ir_trees.specs.Hierarchy.Elaboration.{same_tree}
+use Rattle.ir_trees.specs.Syntax.Trees.{Tree, ConstantKind, TypeKind, kind_of, is_alias, is_type, is_type_kind}
+use Rattle.ir_trees.specs.Syntax.Words.{IsConst, const_tree, ty_tree}
+use Rattle.ir_context.proofs.Hierarchy.Elaboration.{tree_is, tree_itself}
+use Rattle.ir_trees.proofs.Growth.Kept.{ty-kept}
+use Rattle.ir_trees.proofs.Syntax.Rows.{kind-of}
 use Rattle.candidate_eval.specs.Judges.States.{Env, State, resolved_tree}
 use Rattle.candidate_rounds.specs.Evaluators.Inferences.{IsFullAt}
 use Rattle.candidate_rounds.specs.Evaluators.Stopping.{IsNormalStop, normal_number, normal_variable}

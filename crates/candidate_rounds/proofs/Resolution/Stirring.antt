@@ -2,11 +2,11 @@
 use Rattle.std.proofs.Common.{◌≡◌, ℕ, suc, ◌+◌, Bool, true, false, List, Option, Some, None, refl, sym, ◌∙◌, ap, arith}
 use Rattle.std.specs.Prelude.{◌&&◌, ◌||◌}
 use Rattle.std.specs.Option.{option_map}
-use Rattle.candidate_ir.specs.declared.ir.heads.Head.{Head}
-use Rattle.candidate_ir.specs.Instantiation.Folds.{arg_tree}
-use Rattle.candidate_ir.specs.Syntax.Nodes.{tree_at}
-use Rattle.candidate_ir.specs.Syntax.Trees.{Forest, none, tree, Tree, skip}
-use Rattle.candidate_ir.specs.Unification.Substitutions.{alone}
+use Rattle.ir_trees.specs.declared.ir.heads.Head.{Head}
+use Rattle.ir_trees.specs.Instantiation.Folds.{arg_tree}
+use Rattle.ir_trees.specs.Syntax.Nodes.{tree_at}
+use Rattle.ir_trees.specs.Syntax.Trees.{Forest, none, tree, Tree, skip}
+use Rattle.ir_trees.specs.Unification.Substitutions.{alone}
 use Rattle.candidate_eval.specs.declared.eval.mode.TypingMode.{TypingMode}
 use Rattle.candidate_eval.specs.Judges.States.{is_some}
 use Rattle.candidate_eval.specs.Judges.Soundness.{is_region}

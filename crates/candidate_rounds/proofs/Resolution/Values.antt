@@ -1,20 +1,20 @@
 -- The values that are kept are those of the state.
 use Rattle.std.proofs.Common.{◌≡◌, ℕ, true, List, Option, Some, None, MatchOption, refl, sym, ◌∙◌, ap}
 use Rattle.std.specs.Option.{unwrap_or}
-use Rattle.candidate_ir.specs.declared.ir.kinds.GenericArg.{GenericArg}
-use Rattle.candidate_ir.specs.Instantiation.Folds.{IsArg, arg_tree}
-use Rattle.candidate_ir.specs.declared.ir.heads.Head.{Head}
-use Rattle.candidate_ir.specs.declared.ir.heads.Head.TheVariants as H
-use Rattle.candidate_ir.specs.declared.ir.kinds.InferTy.TheVariants as I
-use Rattle.candidate_ir.specs.declared.ir.kinds.TyKind.{TyKind}
-use Rattle.candidate_ir.specs.declared.ir.kinds.TyKind.TheVariants as K
-use Rattle.candidate_ir.specs.declared.ir.kinds.Pattern.TheVariants as Pat
-use Rattle.candidate_ir.specs.Syntax.Words.{kind_tree}
+use Rattle.ir_trees.specs.declared.ir.kinds.GenericArg.{GenericArg}
+use Rattle.ir_trees.specs.Instantiation.Folds.{IsArg, arg_tree}
+use Rattle.ir_trees.specs.declared.ir.heads.Head.{Head}
+use Rattle.ir_trees.specs.declared.ir.heads.Head.TheVariants as H
+use Rattle.ir_trees.specs.declared.ir.kinds.InferTy.TheVariants as I
+use Rattle.ir_trees.specs.declared.ir.kinds.TyKind.{TyKind}
+use Rattle.ir_trees.specs.declared.ir.kinds.TyKind.TheVariants as K
+use Rattle.ir_trees.specs.declared.ir.kinds.Pattern.TheVariants as Pat
+use Rattle.ir_trees.specs.Syntax.Words.{kind_tree}
 use Rattle.candidate_eval.specs.Knowability.Orphan.{is_general}
 use Rattle.candidate_eval.specs.Interface.Evaluators.{resolved_root}
-use Rattle.candidate_ir.specs.Syntax.Kinds.{arg_kind, arg_number, ty_head, is_general_variable}
-use Rattle.candidate_ir.specs.Syntax.Trees.{Kind, TypeKind, RegionKind, Tree, kind_of, is_type_kind}
-use Rattle.candidate_ir.proofs.Syntax.Rows.{kind-of}
+use Rattle.ir_trees.specs.Syntax.Kinds.{arg_kind, arg_number, ty_head, is_general_variable}
+use Rattle.ir_trees.specs.Syntax.Trees.{Kind, TypeKind, RegionKind, Tree, kind_of, is_type_kind}
+use Rattle.ir_trees.proofs.Syntax.Rows.{kind-of}
 use Rattle.candidate_eval.specs.declared.eval.variable.VariableKind.{VariableKind}
 use Rattle.candidate_eval.specs.Judges.States.{State, value_as, value_at, resolved, resolved_tree}
 use Rattle.candidate_eval.specs.Judges.Soundness.{fits_kind, is_region}

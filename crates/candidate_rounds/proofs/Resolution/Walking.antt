@@ -3,12 +3,12 @@ use Rattle.std.proofs.Common.{◌≡◌, inl, inr, ℕ, suc, ◌+◌, Bool, true
 use Rattle.std.specs.Prelude.{◌||◌}
 use Rattle.std.specs.List.{list_any}
 use Rattle.std.proofs.lemmas.Bool.{eqb-true}
-use Rattle.candidate_ir.specs.declared.ir.heads.Head.{Head}
-use Rattle.candidate_ir.specs.Syntax.Nodes.{tree_at}
-use Rattle.candidate_ir.specs.Syntax.Trees.{Forest, none, tree, Tree, holds, skip, tree_holds}
-use Rattle.candidate_ir.proofs.Syntax.Children.{or-false, or-true_right}
-use Rattle.candidate_ir.proofs.Syntax.Splits.{or-assoc}
-use Rattle.candidate_ir.specs.Calls.Walked.{MayBeNoted}
+use Rattle.ir_trees.specs.declared.ir.heads.Head.{Head}
+use Rattle.ir_trees.specs.Syntax.Nodes.{tree_at}
+use Rattle.ir_trees.specs.Syntax.Trees.{Forest, none, tree, Tree, holds, skip, tree_holds}
+use Rattle.ir_trees.proofs.Syntax.Children.{or-false, or-true_right}
+use Rattle.ir_trees.proofs.Syntax.Splits.{or-assoc}
+use Rattle.ir_trees.specs.Calls.Walked.{MayBeNoted}
 use Rattle.candidate_rounds.specs.Table.Goals.{Each}
 
 -- What is so of each noted number, and of that one, is so of each that is noted then.

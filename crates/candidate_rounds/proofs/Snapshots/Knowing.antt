@@ -1,22 +1,22 @@
 -- States as numbers get trees, and as changes are undone.
 use Rattle.std.proofs.Common.{◌≡◌, ℕ, zero, suc, ◌+◌, ◌≤◌, true, List, [], ◌∷◌, ◌++◌, length, take, drop, map, slice_get, Option, Some, None, All, refl, sym, ◌∙◌, ap, subst, arith}
 use Rattle.std.specs.Option.{option_map}
-use Rattle.candidate_ir.specs.declared.ir.kinds.Clause.{Clause}
-use Rattle.candidate_ir.specs.declared.ir.kinds.GenericArg.{GenericArg}
-use Rattle.candidate_ir.specs.declared.ir.kinds.GenericArg.TheVariants as A
-use Rattle.candidate_ir.specs.declared.ir.kinds.Goal.{Goal}
-use Rattle.candidate_ir.specs.declared.ir.kinds.GoalSource.{GoalSource}
-use Rattle.candidate_ir.specs.Instantiation.Folds.{arg_tree}
-use Rattle.candidate_ir.specs.Syntax.Kinds.{arg_number, arg_kind}
-use Rattle.candidate_ir.specs.Syntax.Nodes.{Extends, kind_at, tree_at}
-use Rattle.candidate_ir.specs.Syntax.Trees.{Kind, Tree, tree_holds}
-use Rattle.candidate_ir.specs.declared.ir.kinds.AliasTy.{AliasTy}
-use Rattle.candidate_ir.specs.declared.ir.kinds.Ty.{Ty}
-use Rattle.candidate_ir.specs.declared.ir.kinds.TyKind.TheVariants as K
-use Rattle.candidate_ir.specs.declared.ir.node.Node.TheVariants as N
-use Rattle.candidate_ir.specs.Syntax.Words.{IsClause, KindFits, ty_tree, kind_tree, clause_tree}
-use Rattle.candidate_ir.proofs.Syntax.Lists.{below_kind, kind_at-append, tree_at-append, Fits-append, node_tree-append}
-use Rattle.candidate_ir.specs.Syntax.Trees.{there}
+use Rattle.ir_trees.specs.declared.ir.kinds.Clause.{Clause}
+use Rattle.ir_trees.specs.declared.ir.kinds.GenericArg.{GenericArg}
+use Rattle.ir_trees.specs.declared.ir.kinds.GenericArg.TheVariants as A
+use Rattle.ir_trees.specs.declared.ir.kinds.Goal.{Goal}
+use Rattle.ir_trees.specs.declared.ir.kinds.GoalSource.{GoalSource}
+use Rattle.ir_trees.specs.Instantiation.Folds.{arg_tree}
+use Rattle.ir_trees.specs.Syntax.Kinds.{arg_number, arg_kind}
+use Rattle.ir_trees.specs.Syntax.Nodes.{Extends, kind_at, tree_at}
+use Rattle.ir_trees.specs.Syntax.Trees.{Kind, Tree, tree_holds}
+use Rattle.ir_trees.specs.declared.ir.kinds.AliasTy.{AliasTy}
+use Rattle.ir_trees.specs.declared.ir.kinds.Ty.{Ty}
+use Rattle.ir_trees.specs.declared.ir.kinds.TyKind.TheVariants as K
+use Rattle.ir_trees.specs.declared.ir.node.Node.TheVariants as N
+use Rattle.ir_trees.specs.Syntax.Words.{IsClause, KindFits, ty_tree, kind_tree, clause_tree}
+use Rattle.ir_trees.proofs.Syntax.Lists.{below_kind, kind_at-append, tree_at-append, Fits-append, node_tree-append}
+use Rattle.ir_trees.specs.Syntax.Trees.{there}
 use Rattle.candidate_eval.specs.declared.eval.mode.TypingMode.{TypingMode}
 use Rattle.candidate_eval.specs.Judges.Soundness.{fits_kind}
 use Rattle.candidate_eval.specs.Interface.Evaluators.{IsGoal, pending_of}

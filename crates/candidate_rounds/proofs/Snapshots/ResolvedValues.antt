@@ -2,21 +2,21 @@
 use Rattle.std.proofs.Common.{◌≡◌, ℕ, zero, suc, ◌≤◌, Bool, true, false, not, List, [], ◌∷◌, ◌++◌, length, slice_get, Option, Some, None, Result, Ok, Err, IfOk, IfErr, OnOk, if◌then◌else◌, refl, sym, ◌∙◌, ap, subst, arith}
 use Rattle.std.proofs.lemmas.Bool.{and_parts, not-true}
 use Rattle.std.proofs.lemmas.List.{map-append}
-use Rattle.candidate_ir.specs.declared.ir.heads.Head.{Head}
-use Rattle.candidate_ir.specs.declared.ir.heads.Head.TheVariants as H
-use Rattle.candidate_ir.specs.declared.ir.heads.Variable.{Variable}
-use Rattle.candidate_ir.specs.declared.ir.kinds.AliasTy.{AliasTy}
-use Rattle.candidate_ir.specs.declared.ir.kinds.Goal.{Goal}
-use Rattle.candidate_ir.specs.declared.ir.kinds.GoalSource.{GoalSource}
-use Rattle.candidate_ir.specs.declared.ir.kinds.RegionKind.TheVariants as R
-use Rattle.candidate_ir.specs.declared.ir.kinds.Clause.{Clause}
-use Rattle.candidate_ir.specs.declared.ir.kinds.VarKind.{VarKind}
-use Rattle.candidate_ir.specs.declared.ir.stop.Stop.{Stop}
-use Rattle.candidate_ir.specs.Declarations.Context.{Context, Grows, parameter_kind}
-use Rattle.candidate_ir.specs.Syntax.Nodes.{Extends}
-use Rattle.candidate_ir.specs.Unification.Substitutions.{alone, fits_sort}
-use Rattle.candidate_ir.specs.Syntax.Trees.{Tree}
-use Rattle.candidate_ir.specs.Validity.WellFormed.{IsWellFormedTable}
+use Rattle.ir_trees.specs.declared.ir.heads.Head.{Head}
+use Rattle.ir_trees.specs.declared.ir.heads.Head.TheVariants as H
+use Rattle.ir_trees.specs.declared.ir.heads.Variable.{Variable}
+use Rattle.ir_trees.specs.declared.ir.kinds.AliasTy.{AliasTy}
+use Rattle.ir_trees.specs.declared.ir.kinds.Goal.{Goal}
+use Rattle.ir_trees.specs.declared.ir.kinds.GoalSource.{GoalSource}
+use Rattle.ir_trees.specs.declared.ir.kinds.RegionKind.TheVariants as R
+use Rattle.ir_trees.specs.declared.ir.kinds.Clause.{Clause}
+use Rattle.ir_trees.specs.declared.ir.kinds.VarKind.{VarKind}
+use Rattle.ir_trees.specs.declared.ir.stop.Stop.{Stop}
+use Rattle.ir_trees.specs.Declarations.Context.{Context, Grows, parameter_kind}
+use Rattle.ir_trees.specs.Syntax.Nodes.{Extends}
+use Rattle.ir_trees.specs.Unification.Substitutions.{alone, fits_sort}
+use Rattle.ir_trees.specs.Syntax.Trees.{Tree}
+use Rattle.ir_trees.specs.Validity.WellFormed.{IsWellFormedTable}
 use Rattle.candidate_eval.specs.declared.eval.mode.TypingMode.{TypingMode}
 use Rattle.candidate_eval.specs.declared.eval.variable.VariableKind.{VariableKind}
 use Rattle.candidate_eval.specs.declared.eval.variable.VariableKind.TheVariants.{Term, Region}

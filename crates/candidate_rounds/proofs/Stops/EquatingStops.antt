@@ -1,16 +1,16 @@
 -- Why equations stop.
 use Rattle.std.proofs.Common.{◌≡◌, ℕ, zero, suc, ◌≤◌, ◌<◌, length, reverse, ◌⊎◌, inl, inr, IsErrAnd, MatchOption, ◌&&◌, true, List, [], ◌∷◌, ◌++◌, Option, Some, Result, Ok, Err, IfErr, OnOk, refl, sym, ◌∙◌, ap, subst, arith}
-use Rattle.candidate_ir.specs.declared.ir.stop.Stop.{Stop}
-use Rattle.candidate_ir.specs.declared.ir.stop.Stop.TheVariants.{Memory}
-use Rattle.candidate_ir.specs.Unification.Substitutions.{alone}
-use Rattle.candidate_ir.specs.Syntax.Trees.{Forest, none, tree, Tree, skip}
+use Rattle.ir_trees.specs.declared.ir.stop.Stop.{Stop}
+use Rattle.ir_trees.specs.declared.ir.stop.Stop.TheVariants.{Memory}
+use Rattle.ir_trees.specs.Unification.Substitutions.{alone}
+use Rattle.ir_trees.specs.Syntax.Trees.{Forest, none, tree, Tree, skip}
 use Rattle.candidate_eval.specs.declared.eval.refusal.NoSolutionOrStop.{NoSolutionOrStop}
 use Rattle.candidate_eval.specs.Judges.States.{State}
 use Rattle.candidate_eval.specs.Judges.Soundness.{is_region}
 use Rattle.rounds_judge.specs.Equations.Equating.{Pair, Left, count_unbound, enough, looked, looks, met, size_of_pairs, unified, visited}
 use Rattle.rounds_judge.specs.Aliases.Listed.{Listing, current}
 use Rattle.rounds_judge.specs.Equations.Scopes.{Scope, has_binder, has_variables}
-use Rattle.candidate_ir.specs.Syntax.Nodes.{tree_at}
+use Rattle.ir_trees.specs.Syntax.Nodes.{tree_at}
 use Rattle.rounds_judge.proofs.Equations.Stepping.{met-onto, onto, visited-onto}
 use Rattle.candidate_rounds.specs.Evaluators.Known.{Evaluator, GoesOn, IsGiven, listing, state}
 use Rattle.candidate_rounds.specs.Evaluators.Inferences.{IsFullAt}

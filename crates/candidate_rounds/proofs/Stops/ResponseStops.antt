@@ -2,21 +2,21 @@
 use Rattle.std.proofs.Common.{◌≡◌, inl, inr, ℕ, zero, suc, ◌≤◌, ◌<◌, ◌+◌, Bool, true, false, List, [], ◌∷◌, length, map, slice_index_or, Option, Some, None, Result, Ok, Err, if◌then◌else◌, refl, sym, ◌∙◌, ap, subst, arith}
 use Rattle.std.specs.Prelude.{◌==◌, ◌&&◌, IfErr, IsErrAnd}
 use Rattle.std.specs.List.{Contains}
-use Rattle.candidate_ir.specs.declared.ir.heads.Head.{Head}
-use Rattle.candidate_ir.specs.declared.ir.kinds.Args.{Args}
-use Rattle.candidate_ir.specs.declared.ir.kinds.Clause.{Clause}
-use Rattle.candidate_ir.specs.declared.ir.kinds.GenericArg.{GenericArg}
-use Rattle.candidate_ir.specs.declared.ir.stop.Stop.{Stop}
-use Rattle.candidate_ir.specs.declared.ir.stop.Stop.TheVariants.{Memory, NodesFull}
-use Rattle.candidate_ir.specs.Declarations.Context.{Context, Grows}
-use Rattle.candidate_ir.specs.Instantiation.Folding.{IsSubstStop, no_memory, few_numbers, high_tree}
-use Rattle.candidate_ir.specs.Syntax.Nodes.{tree_at}
-use Rattle.candidate_ir.specs.Unification.Substitutions.{alone}
-use Rattle.candidate_ir.specs.Syntax.Trees.{Forest, none, tree, Tree, count, heights, skip, variable_number}
-use Rattle.candidate_ir.specs.Syntax.Words.{ClauseListFits, IsArgs, IsClause, IsMkStop, args_forest, clause_tree}
-use Rattle.candidate_ir.proofs.Traversal.FoldStops.{IsCause, SaidOfAnswer, subst-cause}
-use Rattle.candidate_ir.proofs.Growth.Kept.{args-kept}
-use Rattle.candidate_ir.proofs.Growth.Made.{IsClause-listed}
+use Rattle.ir_trees.specs.declared.ir.heads.Head.{Head}
+use Rattle.ir_trees.specs.declared.ir.kinds.Args.{Args}
+use Rattle.ir_trees.specs.declared.ir.kinds.Clause.{Clause}
+use Rattle.ir_trees.specs.declared.ir.kinds.GenericArg.{GenericArg}
+use Rattle.ir_trees.specs.declared.ir.stop.Stop.{Stop}
+use Rattle.ir_trees.specs.declared.ir.stop.Stop.TheVariants.{Memory, NodesFull}
+use Rattle.ir_trees.specs.Declarations.Context.{Context, Grows}
+use Rattle.ir_trees.specs.Instantiation.Folding.{IsSubstStop, no_memory, few_numbers, high_tree}
+use Rattle.ir_trees.specs.Syntax.Nodes.{tree_at}
+use Rattle.ir_trees.specs.Unification.Substitutions.{alone}
+use Rattle.ir_trees.specs.Syntax.Trees.{Forest, none, tree, Tree, count, heights, skip, variable_number}
+use Rattle.ir_trees.specs.Syntax.Words.{ClauseListFits, IsArgs, IsClause, IsMkStop, args_forest, clause_tree}
+use Rattle.ir_folds.proofs.Traversal.FoldStops.{IsCause, SaidOfAnswer, subst-cause}
+use Rattle.ir_trees.proofs.Growth.Kept.{args-kept}
+use Rattle.ir_trees.proofs.Growth.Made.{IsClause-listed}
 use Rattle.candidate_eval.specs.declared.eval.mode.TypingMode.{TypingMode}
 use Rattle.candidate_eval.specs.declared.eval.variable.VariableKind.{VariableKind}
 use Rattle.candidate_eval.specs.Judges.States.{State, resolved_tree, variable}

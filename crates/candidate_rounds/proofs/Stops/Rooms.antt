@@ -3,15 +3,15 @@ use Rattle.std.proofs.Common.{◌≡◌, ◌⊎◌, ℕ, suc, ◌+◌, ◌<◌, 
 use Rattle.std.specs.Prelude.{IfErr}
 use Rattle.std.proofs.lemmas.List.{length-append, length-drop}
 use Rattle.std.proofs.Math.Nat.{max-le}
-use Rattle.candidate_ir.specs.declared.ir.kinds.VarKind.{VarKind}
-use Rattle.candidate_ir.specs.declared.ir.kinds.VarKind.TheVariants as K
-use Rattle.candidate_ir.specs.declared.ir.kinds.GenericArg.{GenericArg}
-use Rattle.candidate_ir.specs.declared.ir.stop.Stop.{Stop}
-use Rattle.candidate_ir.specs.declared.ir.stop.Stop.TheVariants.{NodesFull}
-use Rattle.candidate_ir.specs.Declarations.Context.{Context, parameter_kind}
-use Rattle.candidate_ir.specs.Syntax.Nodes.{rows}
-use Rattle.candidate_ir.specs.Syntax.Trees.{heights}
-use Rattle.candidate_ir.specs.Syntax.Words.{IsMkStop, list_forest}
+use Rattle.ir_trees.specs.declared.ir.kinds.VarKind.{VarKind}
+use Rattle.ir_trees.specs.declared.ir.kinds.VarKind.TheVariants as K
+use Rattle.ir_trees.specs.declared.ir.kinds.GenericArg.{GenericArg}
+use Rattle.ir_trees.specs.declared.ir.stop.Stop.{Stop}
+use Rattle.ir_trees.specs.declared.ir.stop.Stop.TheVariants.{NodesFull}
+use Rattle.ir_trees.specs.Declarations.Context.{Context, parameter_kind}
+use Rattle.ir_trees.specs.Syntax.Nodes.{rows}
+use Rattle.ir_trees.specs.Syntax.Trees.{heights}
+use Rattle.ir_trees.specs.Syntax.Words.{IsMkStop, list_forest}
 use Rattle.candidate_eval.specs.Judges.States.{variable_kind}
 use Rattle.candidate_rounds.specs.declared.rounds.fresh.Leaves.{Leaves}
 use Rattle.candidate_rounds.specs.declared.rounds.fresh.Leaves.TheVariants.{Variables, Placeholders}

@@ -1,19 +1,19 @@
 -- Why calls of an evaluator that works in rounds stop.
 use Rattle.std.proofs.Common.{◌≡◌, Bool, ℕ, ◌≤◌, List, Option, Some, Result, Ok, Err, ◌∙◌, ap, subst, arith}
 use Rattle.std.specs.Prelude.{IfErr, length}
-use Rattle.candidate_ir.specs.declared.ir.kinds.RegionKind.{RegionKind}
-use Rattle.candidate_ir.specs.declared.ir.stop.Stop.{Stop}
-use Rattle.candidate_ir.specs.declared.ir.kinds.GenericArg.{GenericArg}
-use Rattle.candidate_ir.specs.declared.ir.kinds.Ty.{Ty}
-use Rattle.candidate_ir.specs.Declarations.Context.{Context, Grows}
-use Rattle.candidate_ir.specs.Instantiation.Folds.{arg_tree}
-use Rattle.candidate_ir.specs.Instantiation.Folding.{Answers, IsSubstStop, IsAnswerStop, fold, fold_tree}
-use Rattle.candidate_ir.specs.Syntax.Kinds.{arg_kind}
-use Rattle.candidate_ir.specs.Syntax.Trees.{Forest, Tree, height}
-use Rattle.candidate_ir.specs.Syntax.Words.{IsMkStop, region_kind_tree}
-use Rattle.candidate_ir.specs.Unification.Substitutions.{alone, row_of}
-use Rattle.candidate_ir.proofs.Syntax.Members.{arg-row}
-use Rattle.candidate_ir.proofs.Traversal.FoldStops.{leaf-stop}
+use Rattle.ir_trees.specs.declared.ir.kinds.RegionKind.{RegionKind}
+use Rattle.ir_trees.specs.declared.ir.stop.Stop.{Stop}
+use Rattle.ir_trees.specs.declared.ir.kinds.GenericArg.{GenericArg}
+use Rattle.ir_trees.specs.declared.ir.kinds.Ty.{Ty}
+use Rattle.ir_trees.specs.Declarations.Context.{Context, Grows}
+use Rattle.ir_trees.specs.Instantiation.Folds.{arg_tree}
+use Rattle.ir_trees.specs.Instantiation.Folding.{Answers, IsSubstStop, IsAnswerStop, fold, fold_tree}
+use Rattle.ir_trees.specs.Syntax.Kinds.{arg_kind}
+use Rattle.ir_trees.specs.Syntax.Trees.{Forest, Tree, height}
+use Rattle.ir_trees.specs.Syntax.Words.{IsMkStop, region_kind_tree}
+use Rattle.ir_trees.specs.Unification.Substitutions.{alone, row_of}
+use Rattle.ir_trees.proofs.Syntax.Members.{arg-row}
+use Rattle.ir_folds.proofs.Traversal.FoldStops.{leaf-stop}
 use Rattle.candidate_rounds.specs.Evaluators.Stopping.{IsTreeStop, IsValueStop, of_listed, of_placed, of_resolved}
 use Rattle.candidate_eval.specs.Judges.States.{State, resolved_tree}
 use Rattle.candidate_rounds.specs.Evaluators.Known.{AreTypes, Each, listing_by, listing_of}

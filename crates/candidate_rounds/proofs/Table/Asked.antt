@@ -2,21 +2,21 @@
 use Rattle.std.proofs.Common.{◌≡◌, ◌≤◌, ℕ, suc, ◌+◌, ◌==◌, Bool, true, false, not, ◌&&◌, ◌||◌, List, [], ◌∷◌, map, slice_get, Option, Some, None, refl, sym, ◌∙◌, ap, subst, arith, if◌then◌else◌}
 use Rattle.std.proofs.lemmas.Bool.{eqb-true, le-ltb, or_parts}
 use Rattle.std.proofs.lemmas.List.Elements.{All-nil}
-use Rattle.candidate_ir.specs.declared.ir.heads.ConstHead.TheVariants as C
-use Rattle.candidate_ir.specs.declared.ir.heads.Head.{Head}
-use Rattle.candidate_ir.specs.declared.ir.heads.Head.TheVariants as H
-use Rattle.candidate_ir.specs.declared.ir.heads.Flag.TheVariants as F
-use Rattle.candidate_ir.specs.declared.ir.heads.Marks.{Marks}
-use Rattle.candidate_ir.specs.declared.ir.kinds.RegionKind.{RegionKind}
-use Rattle.candidate_ir.specs.declared.ir.kinds.RegionKind.TheVariants as R
-use Rattle.candidate_ir.specs.Syntax.Binders.{escapes, is_beyond}
-use Rattle.candidate_ir.specs.Instantiation.Folding.{leaf}
-use Rattle.candidate_ir.specs.Unification.Substitutions.{alone}
-use Rattle.candidate_ir.specs.Instantiation.Owned.{is_unsolved}
-use Rattle.candidate_ir.specs.Syntax.Marks.{AreMarks, marked}
-use Rattle.candidate_ir.specs.Syntax.Trees.{Forest, none, tree, Tree, binders_of, holds, is_param, join, tree_holds}
-use Rattle.candidate_ir.proofs.Instantiation.Folding.{or-left, or-right}
-use Rattle.candidate_ir.proofs.Instantiation.Quiet.{variable-kept}
+use Rattle.ir_trees.specs.declared.ir.heads.ConstHead.TheVariants as C
+use Rattle.ir_trees.specs.declared.ir.heads.Head.{Head}
+use Rattle.ir_trees.specs.declared.ir.heads.Head.TheVariants as H
+use Rattle.ir_trees.specs.declared.ir.heads.Flag.TheVariants as F
+use Rattle.ir_trees.specs.declared.ir.heads.Marks.{Marks}
+use Rattle.ir_trees.specs.declared.ir.kinds.RegionKind.{RegionKind}
+use Rattle.ir_trees.specs.declared.ir.kinds.RegionKind.TheVariants as R
+use Rattle.ir_trees.specs.Syntax.Binders.{escapes, is_beyond}
+use Rattle.ir_trees.specs.Instantiation.Folding.{leaf}
+use Rattle.ir_trees.specs.Unification.Substitutions.{alone}
+use Rattle.ir_trees.specs.Instantiation.Owned.{is_unsolved}
+use Rattle.ir_trees.specs.Syntax.Marks.{AreMarks, marked}
+use Rattle.ir_trees.specs.Syntax.Trees.{Forest, none, tree, Tree, binders_of, holds, is_param, join, tree_holds}
+use Rattle.ir_trees.proofs.Instantiation.Folding.{or-left, or-right}
+use Rattle.ir_trees.proofs.Instantiation.Quiet.{variable-kept}
 use Rattle.candidate_eval.specs.declared.eval.mode.TypingMode.TheVariants.{PostAnalysis}
 use Rattle.candidate_eval.specs.declared.eval.variable.CanonicalVar.{CanonicalVar}
 use Rattle.candidate_eval.specs.declared.eval.variable.VariableKind.{VariableKind}

@@ -3,10 +3,10 @@ use Rattle.std.proofs.Common.{◌≡◌, Bool, true, false, List, refl, rules}
 use Rattle.std.specs.Cmp.Lexicographic.{pointwise}
 use Rattle.std.proofs.lemmas.Slice.Eq.{slice_eq-Decides}
 use Rattle.std.specs.Bool.{Decides}
-use Rattle.candidate_ir.specs.contracts.ir.kinds.ArgsPartialEq.TheImpl as args
-use Rattle.candidate_ir.specs.contracts.ir.kinds.ClausePartialEq.TheImpl as clause
-use Rattle.candidate_ir.specs.declared.ir.kinds.Args.{Args}
-use Rattle.candidate_ir.specs.declared.ir.kinds.Clause.{Clause}
+use Rattle.ir_trees.specs.contracts.ir.kinds.ArgsPartialEq.TheImpl as args
+use Rattle.ir_trees.specs.contracts.ir.kinds.ClausePartialEq.TheImpl as clause
+use Rattle.ir_trees.specs.declared.ir.kinds.Args.{Args}
+use Rattle.ir_trees.specs.declared.ir.kinds.Clause.{Clause}
 use Rattle.candidate_eval.specs.contracts.eval.certainty.CertaintyPartialEq.TheImpl as certainty
 use Rattle.candidate_eval.specs.declared.eval.certainty.Certainty.{Certainty}
 

@@ -5,30 +5,30 @@ use Rattle.std.specs.Option.{unwrap_or}
 use Rattle.std.proofs.lemmas.Bool.{le-ltb, lt-ltb, ltb-false}
 use Rattle.std.proofs.lemmas.List.{append-nil}
 use Rattle.std.proofs.Math.Nat.{max-le}
-use Rattle.candidate_ir.specs.declared.ir.heads.ConstHead.{ConstHead}
-use Rattle.candidate_ir.specs.declared.ir.heads.ConstHead.TheVariants as C
-use Rattle.candidate_ir.specs.declared.ir.heads.Head.{Head}
-use Rattle.candidate_ir.specs.declared.ir.heads.Head.TheVariants as H
-use Rattle.candidate_ir.specs.declared.ir.heads.VariableSort.{VariableSort}
-use Rattle.candidate_ir.specs.declared.ir.heads.VariableSort.TheVariants as V
-use Rattle.candidate_ir.specs.declared.ir.kinds.GenericArg.{GenericArg}
-use Rattle.candidate_ir.specs.declared.ir.kinds.Placeholder.{Placeholder}
-use Rattle.candidate_ir.specs.declared.ir.kinds.RegionKind.{RegionKind}
-use Rattle.candidate_ir.specs.declared.ir.kinds.RegionKind.TheVariants as R
-use Rattle.candidate_ir.specs.declared.ir.kinds.VarKind.{VarKind}
-use Rattle.candidate_ir.specs.declared.ir.kinds.VarKind.TheVariants as K
-use Rattle.candidate_ir.specs.declared.ir.stop.Stop.{Stop}
-use Rattle.candidate_ir.specs.Declarations.Context.{Context, Grows, parameter_kind}
-use Rattle.candidate_ir.specs.Instantiation.Folding.{IsAnswerStop, fold, fold_tree, leaf}
-use Rattle.candidate_ir.specs.Instantiation.Folds.{IsArg, IsOfKind, arg_tree, is_asked, is_asked_kind}
-use Rattle.candidate_ir.specs.Syntax.Kinds.{arg_child, numbers}
-use Rattle.candidate_ir.specs.Syntax.Nodes.{trees_at}
-use Rattle.candidate_ir.specs.Unification.Substitutions.{alone, is_made}
-use Rattle.candidate_ir.specs.Syntax.Trees.{Forest, Tree, none, binders_of, heights, holds, is_number, kind_of, sort_kind, tree_holds, variable_number}
-use Rattle.candidate_ir.specs.Syntax.Words.{IsMkStop, ListFits, list_forest}
-use Rattle.candidate_ir.proofs.Instantiation.Folding.{begin, fold-nothing, or-left, or-right}
-use Rattle.candidate_ir.proofs.Growth.Kept.{grows-trans}
-use Rattle.candidate_ir.proofs.Growth.Made.{ListFits-grows}
+use Rattle.ir_trees.specs.declared.ir.heads.ConstHead.{ConstHead}
+use Rattle.ir_trees.specs.declared.ir.heads.ConstHead.TheVariants as C
+use Rattle.ir_trees.specs.declared.ir.heads.Head.{Head}
+use Rattle.ir_trees.specs.declared.ir.heads.Head.TheVariants as H
+use Rattle.ir_trees.specs.declared.ir.heads.VariableSort.{VariableSort}
+use Rattle.ir_trees.specs.declared.ir.heads.VariableSort.TheVariants as V
+use Rattle.ir_trees.specs.declared.ir.kinds.GenericArg.{GenericArg}
+use Rattle.ir_trees.specs.declared.ir.kinds.Placeholder.{Placeholder}
+use Rattle.ir_trees.specs.declared.ir.kinds.RegionKind.{RegionKind}
+use Rattle.ir_trees.specs.declared.ir.kinds.RegionKind.TheVariants as R
+use Rattle.ir_trees.specs.declared.ir.kinds.VarKind.{VarKind}
+use Rattle.ir_trees.specs.declared.ir.kinds.VarKind.TheVariants as K
+use Rattle.ir_trees.specs.declared.ir.stop.Stop.{Stop}
+use Rattle.ir_trees.specs.Declarations.Context.{Context, Grows, parameter_kind}
+use Rattle.ir_trees.specs.Instantiation.Folding.{IsAnswerStop, fold, fold_tree, leaf}
+use Rattle.ir_trees.specs.Instantiation.Folds.{IsArg, IsOfKind, arg_tree, is_asked, is_asked_kind}
+use Rattle.ir_trees.specs.Syntax.Kinds.{arg_child, numbers}
+use Rattle.ir_trees.specs.Syntax.Nodes.{trees_at}
+use Rattle.ir_trees.specs.Unification.Substitutions.{alone, is_made}
+use Rattle.ir_trees.specs.Syntax.Trees.{Forest, Tree, none, binders_of, heights, holds, is_number, kind_of, sort_kind, tree_holds, variable_number}
+use Rattle.ir_trees.specs.Syntax.Words.{IsMkStop, ListFits, list_forest}
+use Rattle.ir_trees.proofs.Instantiation.Folding.{begin, fold-nothing, or-left, or-right}
+use Rattle.ir_trees.proofs.Growth.Kept.{grows-trans}
+use Rattle.ir_trees.proofs.Growth.Made.{ListFits-grows}
 use Rattle.candidate_eval.specs.contracts.eval.variable.CanonicalVarPartialEq.TheImpl as variable_eq
 use Rattle.candidate_eval.specs.declared.eval.variable.CanonicalVar.{CanonicalVar}
 use Rattle.candidate_eval.specs.declared.eval.variable.VariableKind.{VariableKind}

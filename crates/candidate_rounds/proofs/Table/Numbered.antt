@@ -6,12 +6,12 @@ use Rattle.std.specs.Cmp.{unsigned_Decides}
 use Rattle.std.specs.Cmp.Lexicographic.{pointwise}
 use Rattle.std.specs.List.{AllByRecursion, IsDistinct, list_any}
 use Rattle.std.specs.Map.{keys_of}
-use Rattle.candidate_ir.specs.declared.ir.stop.Stop.{Stop}
-use Rattle.candidate_ir.specs.declared.ir.stop.Stop.TheVariants as K
-use Rattle.candidate_ir.specs.Syntax.Nodes.{tree_at}
-use Rattle.candidate_ir.specs.Syntax.Table.{AreDistinct}
-use Rattle.candidate_ir.specs.Syntax.Trees.{ClauseKind, ClausesKind, Tree}
-use Rattle.candidate_ir.proofs.Growth.One.{number-one}
+use Rattle.ir_trees.specs.declared.ir.stop.Stop.{Stop}
+use Rattle.ir_trees.specs.declared.ir.stop.Stop.TheVariants as K
+use Rattle.ir_trees.specs.Syntax.Nodes.{tree_at}
+use Rattle.ir_trees.specs.Syntax.Table.{AreDistinct}
+use Rattle.ir_trees.specs.Syntax.Trees.{ClauseKind, ClausesKind, Tree}
+use Rattle.ir_context.proofs.Growth.One.{number-one}
 use Rattle.candidate_eval.specs.contracts.eval.variable.CanonicalVarPartialEq.TheImpl as variable
 use Rattle.candidate_eval.specs.Interface.Noting.{refused_note}
 use Rattle.candidate_rounds.specs.declared.rounds.goals.GoalKey.{GoalKey}

@@ -1,7 +1,7 @@
 -- A variable of a response that is open: what is known once it was added.
 use Rattle.std.proofs.Common.{◌≡◌, ℕ, ◌≤◌, min, false, refl, None, List, [], ◌∷◌, ◌++◌, sym, ap, subst, arith}
 use Rattle.std.proofs.lemmas.List.{map-append}
-use Rattle.candidate_ir.specs.Syntax.Trees.{Tree}
+use Rattle.ir_trees.specs.Syntax.Trees.{Tree}
 use Rattle.candidate_eval.specs.declared.eval.mode.TypingMode.{TypingMode}
 use Rattle.candidate_eval.specs.declared.eval.variable.CanonicalVar.{CanonicalVar}
 use Rattle.candidate_eval.specs.declared.eval.variable.VariableKind.{VariableKind}

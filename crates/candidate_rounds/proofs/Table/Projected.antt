@@ -1,8 +1,8 @@
 -- What a response says is given with a new variable that stands for the type of a projection.
 use Rattle.std.proofs.Common.{◌≡◌, ℕ, suc, List, [], ◌∷◌, ◌++◌, map, length, refl, sym, ◌∙◌, ap, subst}
-use Rattle.candidate_ir.specs.declared.ir.heads.VariableSort.TheVariants.{General}
-use Rattle.candidate_ir.specs.declared.ir.stop.Stop.{Stop}
-use Rattle.candidate_ir.specs.Syntax.Trees.{Tree}
+use Rattle.ir_trees.specs.declared.ir.heads.VariableSort.TheVariants.{General}
+use Rattle.ir_trees.specs.declared.ir.stop.Stop.{Stop}
+use Rattle.ir_trees.specs.Syntax.Trees.{Tree}
 use Rattle.candidate_eval.specs.declared.eval.variable.CanonicalVar.{CanonicalVar}
 use Rattle.candidate_eval.specs.declared.eval.variable.VariableKind.TheVariants.{Term}
 use Rattle.candidate_eval.specs.Derivations.ImplRules.{TraitGoal}

@@ -1,6 +1,6 @@
 -- Which goals are asked for, where nodes were made meanwhile.
 use Rattle.std.proofs.Common.{◌≡◌, ◌&&◌, ◌++◌, ◌∷◌, [], Bool, true, false, not, if◌then◌else◌, refl, sym, ◌∙◌, ap}
-use Rattle.candidate_ir.specs.Declarations.Context.{Grows}
+use Rattle.ir_trees.specs.Declarations.Context.{Grows}
 use Rattle.candidate_rounds.specs.Calls.Requesting.{asked_of, is_requested, requested, requested_at}
 use Rattle.candidate_rounds.specs.Evaluators.Known.{Evaluator, IsEvaluator, table_of}
 use Rattle.candidate_rounds.specs.Table.Goals.{Goals, keys_seen, table_seen}

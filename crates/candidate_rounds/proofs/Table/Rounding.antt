@@ -2,15 +2,15 @@
 use Rattle.std.proofs.Common.{◌≡◌, ◌⊎◌, inl, inr, IfErr, IfOk, ◌≤◌, ◌<◌, ◌+◌, ◌-◌, ℕ, zero, suc, Bool, true, false, ◌&&◌, ◌||◌, ◌==◌, List, [], ◌∷◌, ◌++◌, length, map, take, slice_get, Option, Some, None, Result, Ok, Err, OnOk, OnErr, refl, sym, ◌∙◌, ap, subst, arith, if◌then◌else◌, rules}
 use Rattle.std.specs.Cmp.Lexicographic.{pointwise}
 use Rattle.std.proofs.lemmas.List.{length-append, map-append}
-use Rattle.candidate_ir.specs.contracts.ir.kinds.PredicatePolarityPartialEq.TheImpl as polarity
-use Rattle.candidate_ir.specs.declared.ir.kinds.AliasTy.{AliasTy}
-use Rattle.candidate_ir.specs.declared.ir.kinds.PredicatePolarity.{PredicatePolarity}
-use Rattle.candidate_ir.specs.declared.ir.stop.Stop.{Stop}
-use Rattle.candidate_ir.specs.declared.ir.stop.Stop.TheVariants as K
-use Rattle.candidate_ir.specs.Declarations.Context.{Context}
-use Rattle.candidate_ir.specs.Hierarchy.Elaboration.{same_forest}
-use Rattle.candidate_ir.specs.Syntax.Trees.{Tree}
-use Rattle.candidate_ir.proofs.Hierarchy.Elaboration.{forest_itself}
+use Rattle.ir_trees.specs.contracts.ir.kinds.PredicatePolarityPartialEq.TheImpl as polarity
+use Rattle.ir_trees.specs.declared.ir.kinds.AliasTy.{AliasTy}
+use Rattle.ir_trees.specs.declared.ir.kinds.PredicatePolarity.{PredicatePolarity}
+use Rattle.ir_trees.specs.declared.ir.stop.Stop.{Stop}
+use Rattle.ir_trees.specs.declared.ir.stop.Stop.TheVariants as K
+use Rattle.ir_trees.specs.Declarations.Context.{Context}
+use Rattle.ir_trees.specs.Hierarchy.Elaboration.{same_forest}
+use Rattle.ir_trees.specs.Syntax.Trees.{Tree}
+use Rattle.ir_context.proofs.Hierarchy.Elaboration.{forest_itself}
 use Rattle.candidate_eval.specs.contracts.eval.variable.CanonicalVarPartialEq.TheImpl as variable
 use Rattle.candidate_eval.specs.declared.eval.variable.CanonicalVar.{CanonicalVar}
 use Rattle.candidate_eval.specs.Derivations.ImplRules.{TraitGoal}
@@ -19,7 +19,7 @@ use Rattle.candidate_rounds.specs.declared.rounds.goals.GoalKey.{GoalKey}
 use Rattle.candidate_rounds.specs.declared.rounds.writing.Written.{Written}
 use Rattle.candidate_rounds.specs.Table.Goals.{Goals, IsEntryOf, IsKeyOf, IsTabled, IsVerdict, Via, entry_seen, key_seen, keys_seen, table_seen, verdict_seen}
 use Rattle.candidate_rounds.specs.Evaluators.Inferences.{Inference}
-use Rattle.candidate_ir.proofs.Growth.Kept.{grows-refl}
+use Rattle.ir_trees.proofs.Growth.Kept.{grows-refl}
 use Rattle.candidate_rounds.specs.Evaluators.Interface.{Fixed}
 use Rattle.candidate_rounds.specs.Evaluators.Known.{Each, Evaluator, GoesOn, IsEvaluator, state, table_of, NormalForms, listing_by}
 use Rattle.candidate_rounds.proofs.Evaluators.Interface.{keeps-going}

@@ -5,16 +5,16 @@ use Rattle.std.proofs.lemmas.Bool.{cases_lt}
 use Rattle.std.proofs.lemmas.List.{map-append}
 use Rattle.std.proofs.lemmas.List.Elements.{All-contains}
 use Rattle.std.proofs.lemmas.List.Sums.{fold_push}
-use Rattle.candidate_ir.specs.declared.ir.heads.ListHead.TheVariants as L
-use Rattle.candidate_ir.specs.declared.ir.kinds.Args.{Args}
-use Rattle.candidate_ir.specs.declared.ir.kinds.Clause.{Clause}
-use Rattle.candidate_ir.specs.Declarations.Context.{Context}
-use Rattle.candidate_ir.specs.Syntax.Nodes.{Extends}
-use Rattle.candidate_ir.specs.Syntax.Table.{AreDistinct}
-use Rattle.candidate_ir.specs.Syntax.Trees.{ArgumentsKind, ClauseKind, Tree, tree_holds}
+use Rattle.ir_trees.specs.declared.ir.heads.ListHead.TheVariants as L
+use Rattle.ir_trees.specs.declared.ir.kinds.Args.{Args}
+use Rattle.ir_trees.specs.declared.ir.kinds.Clause.{Clause}
+use Rattle.ir_trees.specs.Declarations.Context.{Context}
+use Rattle.ir_trees.specs.Syntax.Nodes.{Extends}
+use Rattle.ir_trees.specs.Syntax.Table.{AreDistinct}
+use Rattle.ir_trees.specs.Syntax.Trees.{ArgumentsKind, ClauseKind, Tree, tree_holds}
 use Rattle.derivations.specs.Clean.{is_error_region}
-use Rattle.candidate_ir.specs.Syntax.Words.{ClauseListFits, IsClause, clause_tree}
-use Rattle.candidate_ir.proofs.Growth.One.{list-one, number-one}
+use Rattle.ir_trees.specs.Syntax.Words.{ClauseListFits, IsClause, clause_tree}
+use Rattle.ir_context.proofs.Growth.One.{list-one, number-one}
 use Rattle.candidate_eval.specs.declared.eval.certainty.Certainty.TheVariants.{Yes}
 use Rattle.candidate_eval.specs.declared.eval.response.Candidate.{Candidate as OfNumbers}
 use Rattle.candidate_eval.specs.declared.eval.response.CanonicalResponse.{CanonicalResponse}

@@ -3,11 +3,11 @@ use Rattle.std.proofs.Common.{◌≡◌, false, ◌⊎◌, inl, inr, ◌+◌, �
 use Rattle.std.specs.List.{Contains}
 use Rattle.std.proofs.lemmas.List.{map-append}
 use Rattle.std.proofs.lemmas.List.Elements.{Contains-append_cases, Contains-append_left, Contains-append_right, Contains-push, Contains-push_cases}
-use Rattle.candidate_ir.specs.Declarations.Context.{Context, Grows, world}
-use Rattle.candidate_ir.specs.Declarations.References.{IsWellFormed}
-use Rattle.candidate_ir.specs.Syntax.Nodes.{Extends}
-use Rattle.candidate_ir.specs.Syntax.Trees.{Tree, holds}
-use Rattle.candidate_ir.specs.Validity.WellFormed.{IsWellFormedTable}
+use Rattle.ir_trees.specs.Declarations.Context.{Context, Grows, world}
+use Rattle.ir_trees.specs.Declarations.References.{IsWellFormed}
+use Rattle.ir_trees.specs.Syntax.Nodes.{Extends}
+use Rattle.ir_trees.specs.Syntax.Trees.{Tree, holds}
+use Rattle.ir_trees.specs.Validity.WellFormed.{IsWellFormedTable}
 use Rattle.candidate_eval.specs.declared.eval.certainty.Certainty.TheVariants.{Yes}
 use Rattle.candidate_eval.specs.declared.eval.response.Candidate.{Candidate as OfNumbers}
 use Rattle.candidate_eval.specs.declared.eval.response.CanonicalResponse.{CanonicalResponse}
@@ -15,9 +15,9 @@ use Rattle.candidate_eval.specs.declared.eval.source.CandidateSource.{CandidateS
 use Rattle.candidate_eval.specs.declared.eval.mode.TypingMode.{TypingMode}
 use Rattle.candidate_eval.specs.Outcomes.Responses.{Candidate}
 use Rattle.candidate_eval.specs.Outcomes.ResponseTrees.{AreCandidates, IsCopy, IsResponse, candidate_of, candidates_of, response_of}
-use Rattle.candidate_ir.specs.declared.ir.kinds.AliasTy.{AliasTy}
-use Rattle.candidate_ir.specs.declared.ir.stop.Stop.{Stop}
-use Rattle.candidate_ir.proofs.Growth.Kept.{grows-refl, grows-trans}
+use Rattle.ir_trees.specs.declared.ir.kinds.AliasTy.{AliasTy}
+use Rattle.ir_trees.specs.declared.ir.stop.Stop.{Stop}
+use Rattle.ir_trees.proofs.Growth.Kept.{grows-refl, grows-trans}
 use Rattle.candidate_eval.specs.Derivations.ImplRules.{TraitGoal}
 use Rattle.candidate_eval.specs.Judges.States.{State}
 use Rattle.candidate_assembly.specs.declared.assembly.opaques.AssembleCandidatesFrom.TheVariants.{All}

@@ -1,12 +1,12 @@
 -- What holds of the table stays as more numbers are given.
 use Rattle.std.proofs.Common.{◌≡◌, false, Option, Some, None, List, [], ◌∷◌, map, refl, sym, ◌∙◌, ap, subst, arith}
 use Rattle.std.specs.Option.{option_map}
-use Rattle.candidate_ir.specs.declared.ir.kinds.Clause.{Clause}
-use Rattle.candidate_ir.specs.declared.ir.kinds.Goal.{Goal}
-use Rattle.candidate_ir.specs.Syntax.Nodes.{Extends, clause_child, kinds_at}
-use Rattle.candidate_ir.specs.Syntax.Kinds.{numbers}
-use Rattle.candidate_ir.specs.Syntax.Trees.{Tree, ClauseKind}
-use Rattle.candidate_ir.specs.Syntax.Words.{IsClause, ClauseListFits, clause_tree}
+use Rattle.ir_trees.specs.declared.ir.kinds.Clause.{Clause}
+use Rattle.ir_trees.specs.declared.ir.kinds.Goal.{Goal}
+use Rattle.ir_trees.specs.Syntax.Nodes.{Extends, clause_child, kinds_at}
+use Rattle.ir_trees.specs.Syntax.Kinds.{numbers}
+use Rattle.ir_trees.specs.Syntax.Trees.{Tree, ClauseKind}
+use Rattle.ir_trees.specs.Syntax.Words.{IsClause, ClauseListFits, clause_tree}
 use Rattle.candidate_eval.specs.Interface.Evaluators.{IsGoal}
 use Rattle.candidate_eval.specs.Outcomes.ResponseTrees.{IsResponse, response_of}
 use Rattle.candidate_eval.specs.declared.eval.response.CanonicalResponse.{CanonicalResponse}

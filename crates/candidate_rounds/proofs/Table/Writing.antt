@@ -2,7 +2,7 @@
 use Rattle.std.proofs.Common.{◌≡◌, ◌<◌, ◌≤◌, ◌+◌, ◌==◌, true, ℕ, zero, suc, List, [], ◌∷◌, ◌++◌, length, take, drop, slice_get, slice_index_or, Option, Some, unwrap_or, refl, sym, ◌∙◌, ap, subst, arith, rules}
 use Rattle.std.specs.Map.{values_of}
 use Rattle.indexmap.specs.IndexMap.{set_value_at}
-use Rattle.candidate_ir.specs.Syntax.Trees.{Tree}
+use Rattle.ir_trees.specs.Syntax.Trees.{Tree}
 use Rattle.candidate_rounds.specs.declared.rounds.goals.GoalKey.{GoalKey}
 use Rattle.candidate_rounds.specs.declared.rounds.goals.Slot.{Slot}
 use Rattle.candidate_rounds.specs.declared.rounds.writing.Written.{Written}

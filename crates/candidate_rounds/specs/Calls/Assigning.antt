@@ -1,13 +1,13 @@
 -- Variables that get values, one after another, by numbers of a context.
 use Rattle.std.specs.Prelude.{◌≡◌, ◌≤◌, ◌<◌, ◌⊎◌, ℕ, zero, suc, Bool, false, not, ◌&&◌, ◌==◌, min, nat_le, nat_lt, Option, Some, None, List, [], ◌∷◌, if◌then◌else◌}
 use Rattle.std.specs.Option.{option_map}
-use Rattle.candidate_ir.specs.declared.ir.heads.Head.{Head}
-use Rattle.candidate_ir.specs.declared.ir.heads.Head.TheVariants as H
-use Rattle.candidate_ir.specs.declared.ir.heads.Variable.{Variable}
-use Rattle.candidate_ir.specs.declared.ir.kinds.GenericArg.{GenericArg}
-use Rattle.candidate_ir.specs.Syntax.Trees.{Tree, erase, holds, tree_holds}
-use Rattle.candidate_ir.specs.Syntax.Binders.{escapes}
-use Rattle.candidate_ir.specs.Unification.Substitutions.{alone, is_placeholder_above, same_variable}
+use Rattle.ir_trees.specs.declared.ir.heads.Head.{Head}
+use Rattle.ir_trees.specs.declared.ir.heads.Head.TheVariants as H
+use Rattle.ir_trees.specs.declared.ir.heads.Variable.{Variable}
+use Rattle.ir_trees.specs.declared.ir.kinds.GenericArg.{GenericArg}
+use Rattle.ir_trees.specs.Syntax.Trees.{Tree, erase, holds, tree_holds}
+use Rattle.ir_trees.specs.Syntax.Binders.{escapes}
+use Rattle.ir_trees.specs.Unification.Substitutions.{alone, is_placeholder_above, same_variable}
 use Rattle.candidate_eval.specs.Judges.States.{State, VariableInfo, valued_tree}
 use Rattle.rounds_judge.specs.Equations.Binding.{occurs, single, numbered}
 use Rattle.candidate_rounds.specs.Evaluators.Inferences.{Inference}

@@ -1,6 +1,6 @@
 -- What the table says of a key, as it is found by numbers.
 use Rattle.std.specs.Prelude.{◌≡◌, ℕ, true, false, Option, Some, List, slice_get}
-use Rattle.candidate_ir.specs.Syntax.Trees.{Tree}
+use Rattle.ir_trees.specs.Syntax.Trees.{Tree}
 use Rattle.candidate_eval.specs.Outcomes.ResponseTrees.{response_of}
 use Rattle.candidate_eval.specs.declared.eval.response.CanonicalResponse.{CanonicalResponse}
 use Rattle.candidate_eval.specs.Outcomes.Responses.{Response}

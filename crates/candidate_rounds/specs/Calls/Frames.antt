@@ -1,9 +1,9 @@
 -- What is left of an equation, by numbers of a context.
 use Rattle.std.specs.Prelude.{◌≡◌, ◌<◌, ◌≤◌, ◌&&◌, ℕ, suc, Bool, true, false, Option, Some, None, List, [], ◌∷◌, ◌++◌, map, length, reverse, take}
-use Rattle.candidate_ir.specs.declared.ir.kinds.Region.{Region}
-use Rattle.candidate_ir.specs.Syntax.Nodes.{tree_at}
-use Rattle.candidate_ir.specs.Syntax.Trees.{Forest, Tree, skip, tree}
-use Rattle.candidate_ir.specs.Syntax.Words.{IsArgs, IsRegion, region_tree}
+use Rattle.ir_trees.specs.declared.ir.kinds.Region.{Region}
+use Rattle.ir_trees.specs.Syntax.Nodes.{tree_at}
+use Rattle.ir_trees.specs.Syntax.Trees.{Forest, Tree, skip, tree}
+use Rattle.ir_trees.specs.Syntax.Words.{IsArgs, IsRegion, region_tree}
 use Rattle.candidate_rounds.specs.declared.rounds.equating.Frame.{Frame}
 use Rattle.candidate_rounds.specs.declared.rounds.equating.Rest.{Rest}
 use Rattle.candidate_eval.specs.Judges.Soundness.{is_region}

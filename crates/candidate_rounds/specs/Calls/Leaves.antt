@@ -1,9 +1,9 @@
 -- What stands for parameters: variables that are numbered on, or placeholders of one universe.
 use Rattle.std.specs.Prelude.{ℕ, suc, ◌+◌, List, [], ◌∷◌}
-use Rattle.candidate_ir.specs.declared.ir.kinds.VarKind.{VarKind}
-use Rattle.candidate_ir.specs.Declarations.Context.{parameter_kind}
-use Rattle.candidate_ir.specs.Instantiation.Folding.{leaf}
-use Rattle.candidate_ir.specs.Syntax.Trees.{Tree}
+use Rattle.ir_trees.specs.declared.ir.kinds.VarKind.{VarKind}
+use Rattle.ir_trees.specs.Declarations.Context.{parameter_kind}
+use Rattle.ir_trees.specs.Instantiation.Folding.{leaf}
+use Rattle.ir_trees.specs.Syntax.Trees.{Tree}
 use Rattle.candidate_eval.specs.Judges.States.{variable, variable_kind, placeholder}
 use Rattle.candidate_rounds.specs.declared.rounds.fresh.Leaves.{Leaves}
 use Rattle.candidate_rounds.specs.declared.rounds.fresh.Leaves.TheVariants.{Variables, Placeholders}

@@ -1,11 +1,11 @@
 -- Variables and types without children that are neither bound nor placeholders.
 use Rattle.std.specs.Prelude.{◌≡◌, ◌==◌, ℕ, Bool, true, false, Option, Some, None}
-use Rattle.candidate_ir.specs.declared.ir.heads.Builtin.TheVariants as B
-use Rattle.candidate_ir.specs.declared.ir.heads.Head.{Head}
-use Rattle.candidate_ir.specs.declared.ir.heads.Head.TheVariants as H
-use Rattle.candidate_ir.specs.declared.ir.heads.Variable.{Variable}
-use Rattle.candidate_ir.specs.declared.ir.kinds.GenericArg.{GenericArg}
-use Rattle.candidate_ir.specs.Syntax.Trees.{none, Tree}
+use Rattle.ir_trees.specs.declared.ir.heads.Builtin.TheVariants as B
+use Rattle.ir_trees.specs.declared.ir.heads.Head.{Head}
+use Rattle.ir_trees.specs.declared.ir.heads.Head.TheVariants as H
+use Rattle.ir_trees.specs.declared.ir.heads.Variable.{Variable}
+use Rattle.ir_trees.specs.declared.ir.kinds.GenericArg.{GenericArg}
+use Rattle.ir_trees.specs.Syntax.Trees.{none, Tree}
 use Rattle.candidate_eval.specs.declared.eval.variable.VariableKind.TheVariants.{Term}
 use Rattle.candidate_rounds.specs.declared.rounds.resolving.Lone.{Lone}
 use Rattle.candidate_rounds.specs.declared.rounds.resolving.Lone.TheVariants as L

@@ -1,13 +1,13 @@
 -- Open parts by numbers: those that are noted, and what stands in their places.
 use Rattle.std.specs.Prelude.{◌≡◌, ℕ, Bool, false, true, ◌&&◌, List, [], ◌∷◌, None, map, if◌then◌else◌}
-use Rattle.candidate_ir.specs.declared.ir.kinds.Args.{Args}
-use Rattle.candidate_ir.specs.declared.ir.kinds.GenericArg.{GenericArg}
-use Rattle.candidate_ir.specs.Instantiation.Folding.{Answers}
-use Rattle.candidate_ir.specs.Instantiation.Folds.{IsArg, arg_tree, is_asked}
-use Rattle.candidate_ir.specs.Syntax.Kinds.{arg_kind}
-use Rattle.candidate_ir.specs.Syntax.Nodes.{tree_at}
-use Rattle.candidate_ir.specs.Syntax.Trees.{Forest, Tree}
-use Rattle.candidate_ir.specs.Syntax.Words.{IsArgs, args_forest, list_forest}
+use Rattle.ir_trees.specs.declared.ir.kinds.Args.{Args}
+use Rattle.ir_trees.specs.declared.ir.kinds.GenericArg.{GenericArg}
+use Rattle.ir_trees.specs.Instantiation.Folding.{Answers}
+use Rattle.ir_trees.specs.Instantiation.Folds.{IsArg, arg_tree, is_asked}
+use Rattle.ir_trees.specs.Syntax.Kinds.{arg_kind}
+use Rattle.ir_trees.specs.Syntax.Nodes.{tree_at}
+use Rattle.ir_trees.specs.Syntax.Trees.{Forest, Tree}
+use Rattle.ir_trees.specs.Syntax.Words.{IsArgs, args_forest, list_forest}
 use Rattle.candidate_eval.specs.Judges.Lawful.{is_type_or_constant}
 use Rattle.rounds_judge.specs.Aliases.Listed.{Listing, listed_in}
 use Rattle.rounds_judge.specs.Aliases.OpenParts.{all_to_be, has_loose_alias, opened, paired, with_parts}

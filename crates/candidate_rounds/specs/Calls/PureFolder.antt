@@ -1,10 +1,10 @@
 -- What stands in the place of types, constants and regions while values, or listed types, are put in.
 use Rattle.std.specs.Prelude.{None, List, if◌then◌else◌}
 use Rattle.std.specs.Option.{option_map}
-use Rattle.candidate_ir.specs.declared.ir.kinds.Ty.{Ty}
-use Rattle.candidate_ir.specs.Instantiation.Folding.{Answers}
-use Rattle.candidate_ir.specs.Instantiation.Folds.{arg_tree, is_asked}
-use Rattle.candidate_ir.specs.Syntax.Trees.{Tree}
+use Rattle.ir_trees.specs.declared.ir.kinds.Ty.{Ty}
+use Rattle.ir_trees.specs.Instantiation.Folding.{Answers}
+use Rattle.ir_trees.specs.Instantiation.Folds.{arg_tree, is_asked}
+use Rattle.ir_trees.specs.Syntax.Trees.{Tree}
 use Rattle.candidate_rounds.specs.Evaluators.Inferences.{Inference, kept_at}
 use Rattle.candidate_rounds.specs.Evaluators.Known.{listing_of}
 use Rattle.rounds_judge.specs.Aliases.Listed.{listed}

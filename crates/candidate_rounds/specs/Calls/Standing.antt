@@ -1,15 +1,15 @@
 -- Goals that stand at what is known: of what counts there, only what has no value.
 use Rattle.std.specs.Prelude.{Bool, false, not, ◌&&◌, nat_lt, Option, Some, None, slice_get}
-use Rattle.candidate_ir.specs.declared.ir.heads.Head.{Head}
-use Rattle.candidate_ir.specs.declared.ir.heads.Head.TheVariants as H
-use Rattle.candidate_ir.specs.declared.ir.heads.ConstHead.TheVariants as C
-use Rattle.candidate_ir.specs.declared.ir.kinds.RegionKind.TheVariants as R
+use Rattle.ir_trees.specs.declared.ir.heads.Head.{Head}
+use Rattle.ir_trees.specs.declared.ir.heads.Head.TheVariants as H
+use Rattle.ir_trees.specs.declared.ir.heads.ConstHead.TheVariants as C
+use Rattle.ir_trees.specs.declared.ir.kinds.RegionKind.TheVariants as R
 use Rattle.candidate_eval.specs.declared.eval.variable.VariableKind.{VariableKind}
 use Rattle.candidate_eval.specs.declared.eval.variable.VariableKind.TheVariants.{Term, Region}
 use Rattle.candidate_eval.specs.Derivations.ImplRules.{TraitGoal}
 use Rattle.candidate_eval.specs.Judges.Alike.{info}
 use Rattle.candidate_eval.specs.Judges.Soundness.{Live, is_strange}
-use Rattle.candidate_ir.specs.Syntax.Trees.{Forest}
+use Rattle.ir_trees.specs.Syntax.Trees.{Forest}
 use Rattle.candidate_eval.specs.Judges.States.{Env, State, VariableInfo, is_some, same_kind}
 use Rattle.candidate_rounds.specs.declared.rounds.inference.Entry.{Entry}
 use Rattle.candidate_rounds.specs.Calls.Starting.{stand}

@@ -1,7 +1,7 @@
 -- Whether what a round writes changes the table, where equal trees have one number.
 use Rattle.std.specs.Prelude.{◌≡◌, ◌++◌, ◌∷◌, List, Option, Some, None, map}
-use Rattle.candidate_ir.specs.Syntax.Table.{AreDistinct}
-use Rattle.candidate_ir.specs.Syntax.Trees.{Tree}
+use Rattle.ir_trees.specs.Syntax.Table.{AreDistinct}
+use Rattle.ir_trees.specs.Syntax.Trees.{Tree}
 use Rattle.candidate_rounds.specs.declared.rounds.goals.GoalKey.{GoalKey}
 use Rattle.candidate_rounds.specs.declared.rounds.goals.Verdict.{Verdict}
 use Rattle.candidate_rounds.specs.declared.rounds.writing.Written.{Written}

@@ -1,5 +1,5 @@
 -- Which states follow sound ones.
-use Rattle.candidate_ir.specs.Syntax.Trees.{Forest}
+use Rattle.ir_trees.specs.Syntax.Trees.{Forest}
 use Rattle.candidate_eval.specs.Judges.Soundness.{AreTreesOf, Follows, GoalsAreOf, IsSound, Live, ValuesFit}
 use Rattle.candidate_eval.specs.Judges.States.{State}
 

@@ -1,15 +1,15 @@
 -- What an evaluator of rounds is to generic code.
 use Rattle.std.specs.Prelude.{◌≡◌, ℕ, false, List, Option, None, unwrap_or, refl, Some}
 use Rattle.std.proofs.Common.{ap}
-use Rattle.candidate_ir.specs.declared.ir.heads.Head.{Head}
-use Rattle.candidate_ir.specs.declared.ir.heads.Head.TheVariants as H
-use Rattle.candidate_ir.specs.declared.ir.kinds.ParamEnv.{ParamEnv}
-use Rattle.candidate_ir.specs.declared.decl.limits.Limits.{Limits}
-use Rattle.candidate_ir.specs.Declarations.Context.{world}
-use Rattle.candidate_ir.specs.Unification.Substitutions.{is_variable}
-use Rattle.candidate_ir.specs.Syntax.Trees.{Forest, Tree}
-use Rattle.candidate_ir.specs.Syntax.Words.{env_forest}
-use Rattle.candidate_ir.specs.Declarations.Worlds.{World}
+use Rattle.ir_trees.specs.declared.ir.heads.Head.{Head}
+use Rattle.ir_trees.specs.declared.ir.heads.Head.TheVariants as H
+use Rattle.ir_trees.specs.declared.ir.kinds.ParamEnv.{ParamEnv}
+use Rattle.ir_trees.specs.declared.decl.limits.Limits.{Limits}
+use Rattle.ir_trees.specs.Declarations.Context.{world}
+use Rattle.ir_trees.specs.Unification.Substitutions.{is_variable}
+use Rattle.ir_trees.specs.Syntax.Trees.{Forest, Tree}
+use Rattle.ir_trees.specs.Syntax.Words.{env_forest}
+use Rattle.ir_trees.specs.Declarations.Worlds.{World}
 use Rattle.candidate_eval.specs.Interface.Evaluators.{NoFault, accepted, alias_trees, resolved_root, root_value, with_left}
 use Rattle.candidate_eval.specs.Interface.Knowing.{SeesStates}
 use Rattle.candidate_eval.specs.Judges.States.{Judge, Pending, State, Env, next}

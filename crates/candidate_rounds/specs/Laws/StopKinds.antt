@@ -1,11 +1,11 @@
 -- Each stop is a refused growth, or that numbers ran out or a tree would be too high, or that the table is full.
 use Rattle.std.proofs.Common.{◌≡◌, inl, inr, length, ℕ, List, sym, subst}
-use Rattle.candidate_ir.specs.declared.ir.stop.Stop.{Stop}
-use Rattle.candidate_ir.specs.declared.ir.stop.Stop.TheVariants as K
-use Rattle.candidate_ir.specs.declared.ir.heads.Head.{Head}
-use Rattle.candidate_ir.specs.declared.ir.heads.Variable.{Variable}
-use Rattle.candidate_ir.specs.Instantiation.Folding.{IsSubstStop}
-use Rattle.candidate_ir.specs.Syntax.Trees.{Forest, Tree}
+use Rattle.ir_trees.specs.declared.ir.stop.Stop.{Stop}
+use Rattle.ir_trees.specs.declared.ir.stop.Stop.TheVariants as K
+use Rattle.ir_trees.specs.declared.ir.heads.Head.{Head}
+use Rattle.ir_trees.specs.declared.ir.heads.Variable.{Variable}
+use Rattle.ir_trees.specs.Instantiation.Folding.{IsSubstStop}
+use Rattle.ir_trees.specs.Syntax.Trees.{Forest, Tree}
 use Rattle.candidate_eval.specs.Interface.Accounts.{Question}
 use Rattle.candidate_eval.specs.Interface.Accounts as Q
 use Rattle.candidate_eval.specs.Interface.Evaluators.{IsEvaluatorStop, IsMakingStop}

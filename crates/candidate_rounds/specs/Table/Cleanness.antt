@@ -1,8 +1,8 @@
 -- Goals and listed types in which no region is an error.
 use Rattle.std.specs.Prelude.{◌≡◌, Bool, false, List}
-use Rattle.candidate_ir.specs.declared.ir.kinds.Ty.{Ty}
-use Rattle.candidate_ir.specs.Syntax.Trees.{Tree, tree_holds}
-use Rattle.candidate_ir.specs.Syntax.Words.{clause_tree, ty_tree}
+use Rattle.ir_trees.specs.declared.ir.kinds.Ty.{Ty}
+use Rattle.ir_trees.specs.Syntax.Trees.{Tree, tree_holds}
+use Rattle.ir_trees.specs.Syntax.Words.{clause_tree, ty_tree}
 use Rattle.derivations.specs.Clean.{is_error_region}
 use Rattle.candidate_rounds.specs.declared.rounds.goals.GoalKey.{GoalKey}
 

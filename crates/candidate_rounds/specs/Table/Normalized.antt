@@ -1,10 +1,10 @@
 -- What normalising a projection answers under a table of goals, and what it leaves.
 use Rattle.std.specs.Prelude.{◌≡◌, ◌++◌, ℕ, List, length, map, Option, Some, None, Result, Ok, Err, IfOk}
-use Rattle.candidate_ir.specs.declared.ir.kinds.AliasTy.{AliasTy}
-use Rattle.candidate_ir.specs.declared.ir.kinds.ParamEnv.{ParamEnv}
-use Rattle.candidate_ir.specs.declared.ir.stop.Stop.{Stop}
-use Rattle.candidate_ir.specs.Declarations.Context.{Grows}
-use Rattle.candidate_ir.specs.Syntax.Trees.{Tree}
+use Rattle.ir_trees.specs.declared.ir.kinds.AliasTy.{AliasTy}
+use Rattle.ir_trees.specs.declared.ir.kinds.ParamEnv.{ParamEnv}
+use Rattle.ir_trees.specs.declared.ir.stop.Stop.{Stop}
+use Rattle.ir_trees.specs.Declarations.Context.{Grows}
+use Rattle.ir_trees.specs.Syntax.Trees.{Tree}
 use Rattle.candidate_eval.specs.declared.eval.refusal.NoSolutionOrStop.{NoSolutionOrStop}
 use Rattle.candidate_eval.specs.declared.eval.refusal.NoSolutionOrStop.TheVariants as N
 use Rattle.candidate_eval.specs.declared.eval.response.CanonicalResponse.{CanonicalResponse}
@@ -61,10 +61,10 @@ pub data IsNormalizedAt (ts : List Tree) (r : Evaluator) (T : GoalTable Via) (k 
   not_begun : {s : Stop} → IsNotBegun ts k s → IsNormalizedAt ts r T k item way (Err s)
   begun : (answer : Result CanonicalResponse NoSolutionOrStop) → IsNormalizedBy ts r T k item way answer → IsNormalizedAt ts r T k item way (as_answer answer)
 
--- How the goal was proved, if it may hold: of a Maybe that isn't known, since it may be refused later, or proved in another way.
+-- How the goal is proved, if it may hold: the way that the verdict names.
 abbrev pub proved_via : Verdict Via → Option (Option Via)
 proved_via (Yes r way) = Some way
-proved_via (Maybe r way) = Some None
+proved_via (Maybe r way) = Some way
 proved_via Refused = None
 
 -- The table that is left: where it stopped, that of the run; else with the goals that were first asked meanwhile.

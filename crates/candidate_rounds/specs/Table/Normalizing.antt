@@ -1,17 +1,17 @@
 -- What a projection comes to under a table of goals: the goal of its trait is run, and then the goal is computed that the projection is a new
 -- variable.
 use Rattle.std.specs.Prelude.{◌≡◌, ◌∷◌, ◌++◌, ℕ, true, [], length, Some}
-use Rattle.candidate_ir.specs.declared.ir.heads.VariableSort.TheVariants.{General}
-use Rattle.candidate_ir.specs.declared.ir.kinds.AliasKind.TheVariants as AK
-use Rattle.candidate_ir.specs.declared.ir.kinds.AliasTy.{AliasTy}
-use Rattle.candidate_ir.specs.declared.ir.kinds.ParamEnv.{ParamEnv}
-use Rattle.candidate_ir.specs.declared.ir.kinds.PredicatePolarity.TheVariants.{Positive}
-use Rattle.candidate_ir.specs.declared.ir.kinds.TraitPredicate.{TraitPredicate}
-use Rattle.candidate_ir.specs.Declarations.Context.{Context, world}
-use Rattle.candidate_ir.specs.Declarations.Worlds.{TraitSort, alias_kinds, joined, parameters}
-use Rattle.candidate_ir.specs.Instantiation.Owned.{AliasArgumentsFit}
-use Rattle.candidate_ir.specs.Syntax.Trees.{TypeKind}
-use Rattle.candidate_ir.specs.Unification.Substitutions.{alone}
+use Rattle.ir_trees.specs.declared.ir.heads.VariableSort.TheVariants.{General}
+use Rattle.ir_trees.specs.declared.ir.kinds.AliasKind.TheVariants as AK
+use Rattle.ir_trees.specs.declared.ir.kinds.AliasTy.{AliasTy}
+use Rattle.ir_trees.specs.declared.ir.kinds.ParamEnv.{ParamEnv}
+use Rattle.ir_trees.specs.declared.ir.kinds.PredicatePolarity.TheVariants.{Positive}
+use Rattle.ir_trees.specs.declared.ir.kinds.TraitPredicate.{TraitPredicate}
+use Rattle.ir_trees.specs.Declarations.Context.{Context, world}
+use Rattle.ir_trees.specs.Declarations.Worlds.{TraitSort, alias_kinds, joined, parameters}
+use Rattle.ir_trees.specs.Instantiation.Owned.{AliasArgumentsFit}
+use Rattle.ir_trees.specs.Syntax.Trees.{TypeKind}
+use Rattle.ir_trees.specs.Unification.Substitutions.{alone}
 use Rattle.candidate_eval.specs.declared.eval.variable.CanonicalVar.{CanonicalVar}
 use Rattle.candidate_eval.specs.declared.eval.variable.VariableKind.TheVariants.{Term}
 use Rattle.candidate_eval.specs.Derivations.ImplRules.{TraitGoal}

@@ -1,7 +1,7 @@
 -- The type that a projection is gets known at a state: what a response says of it is given.
 use Rattle.std.specs.Prelude.{◌++◌, ◌∷◌, [], length, List, Option}
-use Rattle.candidate_ir.specs.declared.ir.stop.Stop.{Stop}
-use Rattle.candidate_ir.specs.Syntax.Trees.{Tree}
+use Rattle.ir_trees.specs.declared.ir.stop.Stop.{Stop}
+use Rattle.ir_trees.specs.Syntax.Trees.{Tree}
 use Rattle.candidate_eval.specs.Derivations.ImplRules.{TraitGoal}
 use Rattle.candidate_eval.specs.Judges.States.{State}
 use Rattle.candidate_eval.specs.Outcomes.Responses.{Response}

@@ -1,7 +1,7 @@
 -- By which sources the steps of a derivation hold, each where what the steps that it names say is known, and nothing else.
 use Rattle.std.specs.Prelude.{◌≡◌, ℕ, true, false, Some, None, List, [], ◌∷◌, ◌++◌, map, slice_get, take, if◌then◌else◌}
 use Rattle.std.specs.List.{Contains, fold}
-use Rattle.candidate_ir.specs.Syntax.Trees.{Tree}
+use Rattle.ir_trees.specs.Syntax.Trees.{Tree}
 use Rattle.candidate_eval.specs.declared.eval.certainty.Certainty.TheVariants.{Yes}
 use Rattle.candidate_eval.specs.declared.eval.response.Candidate.{Candidate as OfNumbers}
 use Rattle.candidate_eval.specs.Outcomes.ResponseTrees.{candidates_of, response_of}

@@ -1,11 +1,11 @@
 -- Why it stops to list a goal's candidates, to find a derivation and to check one.
 use Rattle.std.specs.Prelude.{◌≡◌, ◌≤◌, ℕ, false, length, slice_get, take, List, Some}
 use Rattle.std.specs.List.{Contains}
-use Rattle.candidate_ir.specs.declared.ir.stop.Stop.{Stop}
-use Rattle.candidate_ir.specs.declared.ir.stop.Stop.TheVariants.{Memory, EvaluatorLimit}
-use Rattle.candidate_ir.specs.Declarations.Context.{Grows}
-use Rattle.candidate_ir.specs.Syntax.Nodes.{Extends}
-use Rattle.candidate_ir.specs.Syntax.Trees.{Tree}
+use Rattle.ir_trees.specs.declared.ir.stop.Stop.{Stop}
+use Rattle.ir_trees.specs.declared.ir.stop.Stop.TheVariants.{Memory, EvaluatorLimit}
+use Rattle.ir_trees.specs.Declarations.Context.{Grows}
+use Rattle.ir_trees.specs.Syntax.Nodes.{Extends}
+use Rattle.ir_trees.specs.Syntax.Trees.{Tree}
 use Rattle.candidate_eval.specs.Derivations.ImplRules.{TraitGoal}
 use Rattle.candidate_eval.specs.Interface.Knowing.{is_evaluator_stop}
 use Rattle.candidate_eval.specs.Interface.Noting.{IsNotingStop}

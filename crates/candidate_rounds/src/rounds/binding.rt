@@ -1,14 +1,14 @@
 //! Variables that get values.
 
 ghost use Rattle.std.specs.Prelude.{◌≡◌, ◌≤◌, true, false, [], None, IfOk, IfErr, OnOk, length, slice_get};
-ghost use Rattle.candidate_ir.specs.Declarations.Context.{Grows};
+ghost use Rattle.ir_trees.specs.Declarations.Context.{Grows};
 ghost use Rattle.candidate_eval.specs.Interface.Evaluators.{NoFault};
-ghost use Rattle.candidate_ir.specs.Instantiation.Folding.{IsSubstStop};
-ghost use Rattle.candidate_ir.specs.Instantiation.Folds.{IsArg, arg_tree};
-ghost use Rattle.candidate_ir.specs.Unification.Substitutions.{alone, fits_sort, same_variable};
-ghost use Rattle.candidate_ir.specs.Syntax.Trees.{is_number, tree_holds};
-ghost use Rattle.candidate_ir.specs.Unification.Unify.{same_head};
-ghost use Rattle.candidate_ir.specs.Syntax.Words.{IsClause, IsRegion, clause_tree, region_tree};
+ghost use Rattle.ir_trees.specs.Instantiation.Folding.{IsSubstStop};
+ghost use Rattle.ir_trees.specs.Instantiation.Folds.{IsArg, arg_tree};
+ghost use Rattle.ir_trees.specs.Unification.Substitutions.{alone, fits_sort, same_variable};
+ghost use Rattle.ir_trees.specs.Syntax.Trees.{is_number, tree_holds};
+ghost use Rattle.ir_trees.specs.Unification.Unify.{same_head};
+ghost use Rattle.ir_trees.specs.Syntax.Words.{IsClause, IsRegion, clause_tree, region_tree};
 ghost use Rattle.candidate_eval.specs.Judges.Soundness.{IsResolved};
 ghost use Rattle.candidate_eval.specs.Judges.States.{value_of, valued_tree};
 ghost use Rattle.candidate_eval.specs.declared.eval.mode.TypingMode.{TypingMode};
@@ -24,14 +24,14 @@ use crate::rounds::Rounds;
 use crate::rounds::inference::Inference;
 use crate::rounds::resolving::{Lone, is_same_kind};
 use candidate_eval::eval::variable::VariableKind;
-use candidate_ir::decl::answering::{PureFolder, fold_answers};
-use candidate_ir::decl::context::Cx;
-use candidate_ir::decl::make::Build;
-use candidate_ir::ir::heads::{Builtin, Flag, Head, Marks, Variable, VariableSort};
-use candidate_ir::ir::kinds::{Binder, Clause, ClauseKind, GenericArg, Region};
-use candidate_ir::ir::numbered::Numbered;
-use candidate_ir::ir::stop::Stop;
-use candidate_ir::ir::trees::Trees;
+use ir_context::decl::context::Cx;
+use ir_context::decl::make::Build;
+use ir_folds::decl::answering::{PureFolder, fold_answers};
+use ir_trees::ir::heads::{Builtin, Flag, Head, Marks, Variable, VariableSort};
+use ir_trees::ir::kinds::{Binder, Clause, ClauseKind, GenericArg, Region};
+use ir_trees::ir::numbered::Numbered;
+use ir_trees::ir::stop::Stop;
+use ir_trees::ir::trees::Trees;
 use std::alloc::Global;
 
 /// Whether a variable of the sort may go to the argument: one for integers to an integer type or another variable for integers.

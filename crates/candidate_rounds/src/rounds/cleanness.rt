@@ -10,12 +10,12 @@ ghost use Rattle.candidate_rounds.specs.Table.Goals.{Each, IsTabled, IsTraitGoal
 use crate::rounds::Rounds;
 use crate::rounds::goals::{GoalKey, Goals};
 use crate::rounds::walking::has_marked;
-use candidate_ir::decl::context::Cx;
-use candidate_ir::ir::heads::{Flag, Marks};
-use candidate_ir::ir::kinds::{RegionKind, Ty};
-use candidate_ir::ir::marks::Mark;
-use candidate_ir::ir::node::Node;
-use candidate_ir::ir::walked::Walked;
+use ir_context::decl::context::Cx;
+use ir_trees::ir::heads::{Flag, Marks};
+use ir_trees::ir::kinds::{RegionKind, Ty};
+use ir_trees::ir::marks::Mark;
+use ir_trees::ir::node::Node;
+use ir_trees::ir::walked::Walked;
 use std::alloc::Global;
 
 /// The mark of a region that is an error.

@@ -2,8 +2,8 @@
 
 ghost use Rattle.std.specs.Prelude.{◌≡◌, ◌<◌, ◌≤◌, ◌++◌, ◌∷◌, ◌⊎◌, ◌+◌, List, [], None, Some, true, false, length, set, slice_get, take, IfErr, IfOk, IfSome, MatchOption, OnOk};
 ghost use Rattle.std.specs.List.{filter_map};
-ghost use Rattle.candidate_ir.specs.declared.ir.stop.Stop.{Stop};
-ghost use Rattle.candidate_ir.specs.Syntax.Trees.{Tree};
+ghost use Rattle.ir_trees.specs.declared.ir.stop.Stop.{Stop};
+ghost use Rattle.ir_trees.specs.Syntax.Trees.{Tree};
 ghost use Rattle.candidate_eval.specs.Interface.Noting.{IsNotingStop};
 ghost use Rattle.candidate_eval.specs.Outcomes.ResponseTrees.{AreCandidates, IsCopy, IsResponse, candidates_of};
 ghost use Rattle.candidate_assembly.specs.Goals.KindShown.{IsGoal, trait_kind};
@@ -34,9 +34,9 @@ use candidate_assembly::assembly::opaques::AssembleCandidatesFrom;
 use candidate_eval::eval::certainty::Certainty;
 use candidate_eval::eval::response::{Candidate, CanonicalResponse};
 use candidate_eval::eval::source::CandidateSource;
-use candidate_ir::ir::kinds::{ParamEnv, TraitPredicate};
-use candidate_ir::ir::stop::Stop;
-use candidate_ir::ir::trees::Trees;
+use ir_trees::ir::kinds::{ParamEnv, TraitPredicate};
+use ir_trees::ir::stop::Stop;
+use ir_trees::ir::trees::Trees;
 use std::alloc::Global;
 
 /// A goal that holds by a rule.

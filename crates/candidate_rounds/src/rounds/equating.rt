@@ -1,12 +1,12 @@
 //! Trees are made equal: what is first on both sides is looked at, and then what is left.
 
 ghost use Rattle.std.specs.Prelude.{◌≡◌, ◌<◌, ◌⊎◌, Some, None, List, [], ◌∷◌, ◌++◌, IfOk, IfErr, OnOk, OnErr, MatchOption, length, reverse, ◌&&◌, false, true};
-ghost use Rattle.candidate_ir.specs.Instantiation.Folds.{IsArg, arg_tree};
-ghost use Rattle.candidate_ir.specs.Syntax.Nodes.{tree_at};
-ghost use Rattle.candidate_ir.specs.Unification.Substitutions.{alone};
-ghost use Rattle.candidate_ir.specs.Syntax.Trees.{holds, none, skip};
-ghost use Rattle.candidate_ir.specs.Unification.Unify.{same_head};
-ghost use Rattle.candidate_ir.specs.Syntax.Words.{IsArgs, IsRegion, args_forest, region_tree};
+ghost use Rattle.ir_trees.specs.Instantiation.Folds.{IsArg, arg_tree};
+ghost use Rattle.ir_trees.specs.Syntax.Nodes.{tree_at};
+ghost use Rattle.ir_trees.specs.Unification.Substitutions.{alone};
+ghost use Rattle.ir_trees.specs.Syntax.Trees.{holds, none, skip};
+ghost use Rattle.ir_trees.specs.Unification.Unify.{same_head};
+ghost use Rattle.ir_trees.specs.Syntax.Words.{IsArgs, IsRegion, args_forest, region_tree};
 ghost use Rattle.candidate_eval.specs.Interface.Evaluators.{resolved_root, root_value};
 ghost use Rattle.candidate_eval.specs.Judges.States.{resolved_tree};
 ghost use Rattle.candidate_eval.specs.Interface.Accounts.{if_refused, if_stopped};
@@ -23,12 +23,12 @@ use crate::rounds::repeating::{Met, has_variables};
 use crate::rounds::resolving::variable_at;
 use crate::rounds::walking::is_passive;
 use candidate_eval::eval::refusal::NoSolutionOrStop;
-use candidate_ir::decl::context::Cx;
-use candidate_ir::ir::heads::Head;
-use candidate_ir::ir::kinds::{Args, GenericArg, Region};
-use candidate_ir::ir::numbered::Numbered;
-use candidate_ir::ir::stop::Stop;
-use candidate_ir::ir::trees::Trees;
+use ir_context::decl::context::Cx;
+use ir_trees::ir::heads::Head;
+use ir_trees::ir::kinds::{Args, GenericArg, Region};
+use ir_trees::ir::numbered::Numbered;
+use ir_trees::ir::stop::Stop;
+use ir_trees::ir::trees::Trees;
 use std::alloc::Global;
 
 /// Two nodes of which what stands below is still to be made equal, from a place on.

@@ -1,11 +1,11 @@
 //! The evaluator as generic code knows it. What a call says beyond its trait is in clauses of its own, beside the trait's.
 
 ghost use Rattle.std.specs.Prelude.{false, true, map, All, List, ◌≡◌, ◌≢◌, ◌++◌, ◌∷◌, [], Some, None, refl, length, IfOk, IfErr, OnOk, OnErr};
-ghost use Rattle.candidate_ir.specs.declared.ir.kinds.TyKind.TheVariants as K;
-ghost use Rattle.candidate_ir.specs.Declarations.Context.{Grows};
-ghost use Rattle.candidate_ir.specs.Instantiation.Folds.{IsArg, arg_tree};
-ghost use Rattle.candidate_ir.specs.Unification.Substitutions.{alone};
-ghost use Rattle.candidate_ir.specs.Syntax.Words.{IsArgs, IsClause, IsConst, IsParamEnv, IsTy, KindFits, args_forest, clause_tree, const_tree, env_forest, ty_tree};
+ghost use Rattle.ir_trees.specs.declared.ir.kinds.TyKind.TheVariants as K;
+ghost use Rattle.ir_trees.specs.Declarations.Context.{Grows};
+ghost use Rattle.ir_trees.specs.Instantiation.Folds.{IsArg, arg_tree};
+ghost use Rattle.ir_trees.specs.Unification.Substitutions.{alone};
+ghost use Rattle.ir_trees.specs.Syntax.Words.{IsArgs, IsClause, IsConst, IsParamEnv, IsTy, KindFits, args_forest, clause_tree, const_tree, env_forest, ty_tree};
 ghost use Rattle.candidate_eval.specs.Interface.Accounts.{by_stop, if_refused};
 ghost use Rattle.candidate_eval.specs.Interface.Accounts as question;
 ghost use Rattle.candidate_eval.specs.Interface.Evaluators.{NoFault, IsGoal, IsHiddenOpaque, Keeps, KeepsBut, PutsOffIfOk, alias_trees, begun, kinds_listed, pending_of, pendings_of, resolved_root, rigid, with_goals_of, with_rigid};
@@ -32,16 +32,16 @@ use candidate_eval::eval::mode::TypingMode;
 use candidate_eval::eval::refusal::NoSolutionOrStop;
 use candidate_eval::eval::response::{CandidateHeadUsages, CanonicalResponse};
 use candidate_eval::eval::variable::VariableKind;
-use candidate_ir::decl::context::Cx;
-use candidate_ir::decl::make::{Build, Make};
-use candidate_ir::ir::kinds::{
+use ir_context::decl::context::Cx;
+use ir_context::decl::make::{Build, Make};
+use ir_trees::ir::kinds::{
     AliasTy, Args, Binder, Clause, ClauseKind, ClosureSig, Const, ConstKind, ExistentialPredicate,
     GenericArg, Goal, GoalSource, ParamEnv, Preds, Region, RegionKind, Sig, Ty, TyKind, VarKind,
     Vars,
 };
-use candidate_ir::ir::making::New;
-use candidate_ir::ir::stop::Stop;
-use candidate_ir::ir::trees::Trees;
+use ir_trees::ir::making::New;
+use ir_trees::ir::stop::Stop;
+use ir_trees::ir::trees::Trees;
 use std::alloc::Global;
 
 impl Build for Rounds {

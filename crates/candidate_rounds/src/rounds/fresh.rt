@@ -2,22 +2,22 @@
 
 ghost use Rattle.std.specs.Prelude.{◌≡◌, ◌+◌, ◌<◌, ◌^◌, IfErr, IfOk, length};
 ghost use Rattle.candidate_rounds.specs.Evaluators.Inferences.{IsFullAt};
-ghost use Rattle.candidate_ir.specs.Declarations.Context.{Grows, parameter_kind};
+ghost use Rattle.ir_trees.specs.Declarations.Context.{Grows, parameter_kind};
 ghost use Rattle.candidate_eval.specs.Interface.Evaluators.{NoFault};
-ghost use Rattle.candidate_ir.specs.Instantiation.Folds.{IsArg, arg_tree};
-ghost use Rattle.candidate_ir.specs.Syntax.Nodes.{rows};
-ghost use Rattle.candidate_ir.specs.Syntax.Words.{IsArgs, args_forest};
+ghost use Rattle.ir_trees.specs.Instantiation.Folds.{IsArg, arg_tree};
+ghost use Rattle.ir_trees.specs.Syntax.Nodes.{rows};
+ghost use Rattle.ir_trees.specs.Syntax.Words.{IsArgs, args_forest};
 ghost use Rattle.candidate_eval.specs.Judges.States.{variable, variable_kind};
 ghost use Rattle.candidate_rounds.specs.Calls.Leaves.{leaf_of, all_leaves, last_number};
 
 use candidate_eval::eval::variable::VariableKind;
-use candidate_ir::decl::context::Cx;
-use candidate_ir::decl::make::Build;
-use candidate_ir::ir::heads::VariableSort;
-use candidate_ir::ir::kinds::{
+use ir_context::decl::context::Cx;
+use ir_context::decl::make::Build;
+use ir_trees::ir::heads::VariableSort;
+use ir_trees::ir::kinds::{
     Args, ConstKind, GenericArg, InferTy, Placeholder, RegionKind, TyKind, VarKind,
 };
-use candidate_ir::ir::stop::Stop;
+use ir_trees::ir::stop::Stop;
 use std::alloc::Global;
 
 /// What stands for parameters, one after another.

@@ -1,17 +1,17 @@
 //! What an evaluator may be given, by tests.
 
 ghost use Rattle.std.specs.Prelude.{◌≡◌, ◌↔◌, IsTrue};
-ghost use Rattle.candidate_ir.specs.declared.ir.kinds.TyKind.TheVariants as K;
-ghost use Rattle.candidate_ir.specs.Syntax.Words.{IsArgs, IsTy, kind_tree, ty_tree};
+ghost use Rattle.ir_trees.specs.declared.ir.kinds.TyKind.TheVariants as K;
+ghost use Rattle.ir_trees.specs.Syntax.Words.{IsArgs, IsTy, kind_tree, ty_tree};
 ghost use Rattle.rounds_judge.specs.Aliases.WellListed.{is_fixed, may_be_listed};
 ghost use Rattle.candidate_rounds.specs.Evaluators.Known.{MayBeHidden};
 
 use crate::rounds::values::is_alias;
-use candidate_ir::decl::context::Cx;
-use candidate_ir::ir::heads::Flag;
-use candidate_ir::ir::kinds::{AliasKind, AliasTy, GenericArg, Ty};
-use candidate_ir::ir::marks::{Made, Unsolved};
-use candidate_ir::ir::trees::Trees;
+use ir_context::decl::context::Cx;
+use ir_trees::ir::heads::Flag;
+use ir_trees::ir::kinds::{AliasKind, AliasTy, GenericArg, Ty};
+use ir_trees::ir::marks::{Made, Unsolved};
+use ir_trees::ir::trees::Trees;
 
 /// Whether the type means the same at every state.
 fn is_fixed(cx: &Cx, ty: Ty) -> bool

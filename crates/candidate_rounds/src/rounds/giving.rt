@@ -1,15 +1,15 @@
 //! What a Yes of the table gives a goal that asks.
 
 ghost use Rattle.std.specs.Prelude.{◌≡◌, ◌+◌, true, map, None, Some, IfErr, IfOk, OnOk, option_map, length};
-ghost use Rattle.candidate_ir.specs.declared.ir.stop.Stop.{Stop};
-ghost use Rattle.candidate_ir.specs.Declarations.Context.{Grows};
+ghost use Rattle.ir_trees.specs.declared.ir.stop.Stop.{Stop};
+ghost use Rattle.ir_trees.specs.Declarations.Context.{Grows};
 ghost use Rattle.candidate_eval.specs.Interface.Evaluators.{NoFault};
-ghost use Rattle.candidate_ir.specs.Instantiation.Folds.{IsArg, IsOfKind, arg_tree};
-ghost use Rattle.candidate_ir.specs.Instantiation.Folding.{IsAnswerStop, IsSubstStop};
-ghost use Rattle.candidate_ir.specs.Syntax.Nodes.{kind_at, tree_at};
-ghost use Rattle.candidate_ir.specs.Instantiation.Results.{row_at};
-ghost use Rattle.candidate_ir.specs.Syntax.Trees.{is_list_kind, is_number};
-ghost use Rattle.candidate_ir.specs.Syntax.Words.{ClauseListFits, IsArgs, IsClause, ListFits, args_forest, clause_tree, list_forest};
+ghost use Rattle.ir_trees.specs.Instantiation.Folds.{IsArg, IsOfKind, arg_tree};
+ghost use Rattle.ir_trees.specs.Instantiation.Folding.{IsAnswerStop, IsSubstStop};
+ghost use Rattle.ir_trees.specs.Syntax.Nodes.{kind_at, tree_at};
+ghost use Rattle.ir_trees.specs.Instantiation.Results.{row_at};
+ghost use Rattle.ir_trees.specs.Syntax.Trees.{is_list_kind, is_number};
+ghost use Rattle.ir_trees.specs.Syntax.Words.{ClauseListFits, IsArgs, IsClause, ListFits, args_forest, clause_tree, list_forest};
 ghost use Rattle.candidate_eval.specs.Outcomes.ResponseTrees.{IsResponse, response_of};
 ghost use Rattle.candidate_eval.specs.Judges.States.{valued, valued_tree};
 ghost use Rattle.candidate_eval.specs.Interface.Accounts.{if_refused, if_stopped};
@@ -29,13 +29,13 @@ use crate::rounds::responding::variable_in;
 use candidate_eval::eval::refusal::NoSolutionOrStop;
 use candidate_eval::eval::response::CanonicalResponse;
 use candidate_eval::eval::variable::CanonicalVar;
-use candidate_ir::decl::answering::{PureFolder, fold_answers};
-use candidate_ir::decl::context::Cx;
-use candidate_ir::ir::heads::{ConstHead, Head, Marks};
-use candidate_ir::ir::kinds::{Args, Clause, GenericArg, Placeholder, RegionKind, VarKind};
-use candidate_ir::ir::numbered::Numbered;
-use candidate_ir::ir::stop::Stop;
-use candidate_ir::ir::trees::Trees;
+use ir_context::decl::context::Cx;
+use ir_folds::decl::answering::{PureFolder, fold_answers};
+use ir_trees::ir::heads::{ConstHead, Head, Marks};
+use ir_trees::ir::kinds::{Args, Clause, GenericArg, Placeholder, RegionKind, VarKind};
+use ir_trees::ir::numbered::Numbered;
+use ir_trees::ir::stop::Stop;
+use ir_trees::ir::trees::Trees;
 use std::alloc::Global;
 
 /// Whether the argument is the variable of that number.

@@ -9,8 +9,8 @@ ghost use Rattle.candidate_rounds.specs.Evaluators.Inferences.{Inference, with_v
 
 use crate::rounds::fresh::variable_kind;
 use candidate_eval::eval::variable::{CanonicalVar, VariableKind};
-use candidate_ir::ir::kinds::{Clause, GenericArg, Goal, GoalSource, VarKind};
-use candidate_ir::ir::stop::Stop;
+use ir_trees::ir::kinds::{Clause, GenericArg, Goal, GoalSource, VarKind};
+use ir_trees::ir::stop::Stop;
 use std::alloc::Global;
 use std::marker::Model;
 

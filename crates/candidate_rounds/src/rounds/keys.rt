@@ -2,12 +2,12 @@
 
 ghost use Rattle.std.specs.Prelude.{◌≡◌, ◌<◌, [], true, not, max, refl, length, map, slice_get, Some, IfErr, IfOk};
 ghost use Rattle.std.specs.List.{list_all};
-ghost use Rattle.candidate_ir.specs.Declarations.Context.{Grows};
+ghost use Rattle.ir_trees.specs.Declarations.Context.{Grows};
 ghost use Rattle.candidate_eval.specs.Interface.Evaluators.{NoFault};
-ghost use Rattle.candidate_ir.specs.Syntax.Nodes.{kind_at, tree_at};
-ghost use Rattle.candidate_ir.specs.Syntax.Trees.{is_list_kind};
-ghost use Rattle.candidate_ir.specs.Unification.Substitutions.{alone};
-ghost use Rattle.candidate_ir.specs.Syntax.Words.{ClauseListFits, IsArgs, args_forest, clause_tree, env_forest};
+ghost use Rattle.ir_trees.specs.Syntax.Nodes.{kind_at, tree_at};
+ghost use Rattle.ir_trees.specs.Syntax.Trees.{is_list_kind};
+ghost use Rattle.ir_trees.specs.Unification.Substitutions.{alone};
+ghost use Rattle.ir_trees.specs.Syntax.Words.{ClauseListFits, IsArgs, args_forest, clause_tree, env_forest};
 ghost use Rattle.candidate_eval.specs.declared.eval.mode.TypingMode.{TypingMode};
 ghost use Rattle.candidate_eval.specs.declared.eval.mode.TypingMode.TheVariants.{PostAnalysis};
 ghost use Rattle.candidate_eval.specs.Interface.Noting.{IsNotingStop};
@@ -34,15 +34,15 @@ use candidate_eval::eval::certainty::Certainty;
 use candidate_eval::eval::clauses::predicate_in;
 use candidate_eval::eval::response::CanonicalResponse;
 use candidate_eval::eval::variable::{CanonicalVar, VariableKind};
-use candidate_ir::decl::context::Cx;
-use candidate_ir::ir::heads::{ConstHead, Flag, Head, Marks, VariableSort};
-use candidate_ir::ir::kinds::{Args, Clause, ConstKind, Goal, RegionKind, TyKind};
-use candidate_ir::ir::marks::Mark;
-use candidate_ir::ir::node::Node;
-use candidate_ir::ir::numbered::Numbered;
-use candidate_ir::ir::stop::Stop;
-use candidate_ir::ir::trees::Trees;
-use candidate_ir::ir::walked::Walked;
+use ir_context::decl::context::Cx;
+use ir_trees::ir::heads::{ConstHead, Flag, Head, Marks, VariableSort};
+use ir_trees::ir::kinds::{Args, Clause, ConstKind, Goal, RegionKind, TyKind};
+use ir_trees::ir::marks::Mark;
+use ir_trees::ir::node::Node;
+use ir_trees::ir::numbered::Numbered;
+use ir_trees::ir::stop::Stop;
+use ir_trees::ir::trees::Trees;
+use ir_trees::ir::walked::Walked;
 use std::alloc::Global;
 
 /// A goal's key, and the numbers of the goal's variables, in the order of the key's.

@@ -1,13 +1,13 @@
 //! Normal forms.
 
 ghost use Rattle.std.specs.Prelude.{◌≡◌, Some};
-ghost use Rattle.candidate_ir.specs.Syntax.Words.{IsTy, ty_tree};
+ghost use Rattle.ir_trees.specs.Syntax.Words.{IsTy, ty_tree};
 ghost use Rattle.candidate_rounds.specs.Evaluators.Known.{listing};
 ghost use Rattle.rounds_judge.specs.Aliases.Normalizing.{type_or_itself};
 
 use crate::rounds::Rounds;
-use candidate_ir::ir::kinds::{Ty, TyKind};
-use candidate_ir::ir::trees::Trees;
+use ir_trees::ir::kinds::{Ty, TyKind};
+use ir_trees::ir::trees::Trees;
 
 impl Rounds {
     /// A listed alias's type, or the type itself.

@@ -1,10 +1,10 @@
 //! What a projection comes to: rounds for the goal of its trait, and then the goal that the projection is a new variable.
 
 ghost use Rattle.std.specs.Prelude.{◌≡◌, ◌<◌, ◌++◌, ◌∷◌, List, true, false, [], length, map, Some, None, IfErr, IfOk, IfSome, OnOk};
-ghost use Rattle.candidate_ir.specs.declared.ir.kinds.AliasKind.TheVariants as alias_kind;
-ghost use Rattle.candidate_ir.specs.Declarations.Context.{Grows};
-ghost use Rattle.candidate_ir.specs.Syntax.Trees.{Tree};
-ghost use Rattle.candidate_ir.specs.Syntax.Words.{IsArgs, IsTy, args_forest, ty_tree};
+ghost use Rattle.ir_trees.specs.declared.ir.kinds.AliasKind.TheVariants as alias_kind;
+ghost use Rattle.ir_trees.specs.Declarations.Context.{Grows};
+ghost use Rattle.ir_trees.specs.Syntax.Trees.{Tree};
+ghost use Rattle.ir_trees.specs.Syntax.Words.{IsArgs, IsTy, args_forest, ty_tree};
 ghost use Rattle.candidate_eval.specs.Interface.Evaluators.{NoFault};
 ghost use Rattle.candidate_eval.specs.Judges.States.{variable};
 ghost use Rattle.candidate_eval.specs.Outcomes.ResponseTrees.{IsResponse};
@@ -37,14 +37,14 @@ use candidate_assembly::assembly::merging::TraitGoalProvenVia;
 use candidate_eval::eval::refusal::NoSolutionOrStop;
 use candidate_eval::eval::response::CanonicalResponse;
 use candidate_eval::eval::variable::{CanonicalVar, VariableKind};
-use candidate_ir::decl::context::Cx;
-use candidate_ir::decl::make::Build;
-use candidate_ir::ir::heads::VariableSort;
-use candidate_ir::ir::kinds::{
+use ir_context::decl::context::Cx;
+use ir_context::decl::make::Build;
+use ir_trees::ir::heads::VariableSort;
+use ir_trees::ir::kinds::{
     AliasTy, Args, AssocId, InferTy, ParamEnv, PredicatePolarity, TraitPredicate, TraitRef, Ty,
     TyKind,
 };
-use candidate_ir::ir::stop::Stop;
+use ir_trees::ir::stop::Stop;
 use projection_goals::kind::{NormalizesTo, trait_of};
 use projection_goals::proving::compute_normalizes_to;
 use std::alloc::Global;
@@ -89,13 +89,12 @@ pub fn canonical_args(alloc: Global, cx: &mut Cx, args: Args) -> Result<Args, St
     numbered_args(alloc, cx, numbers.as_slice(), args)
 }
 
-/// How the goal of a verdict was proved, if it may hold. Of one that is a Maybe it isn't known: it may still be refused, or proved in another way.
+/// How the goal of a verdict is proved, if it may hold: the way that the verdict names, also where it is a Maybe.
 fn proved_via(verdict: &Verdict) -> Option<Option<TraitGoalProvenVia>>
     ensures { (ts : List Tree) → result ≡ proved_via (verdict_seen ts verdict.now) }
 {
     match verdict {
-        Verdict::Yes(_, way) => Some(*way),
-        Verdict::Maybe(_, _) => Some(None),
+        Verdict::Yes(_, way) | Verdict::Maybe(_, way) => Some(*way),
         Verdict::Refused => None,
     }
 }
@@ -317,9 +316,12 @@ impl Rounds {
         }
     }
 
-    /// What a projection comes to in so many rounds at most: the goal of its trait is run, and where that isn't refused, the goal that the
-    /// projection is a new variable is computed, by how the trait's was proved. `None` says that there is none, as far as the rules go. Where
-    /// the trait's goal is a Maybe the projection is one: a sure answer rests on a trait's goal that is final.
+    /// What type a projection is, in that many rounds at most: the goal of its trait is run, and where that isn't refused, the goal that the
+    /// projection is a new variable is computed under the table then left, in the way that the trait's verdict names. `None` says that there
+    /// is no type, as far as the rules go.
+    ///
+    /// The trait's goal may be a Maybe. More rounds may then refuse it, or find another way, and so take a sure answer back. Who needs an
+    /// answer that stays runs the trait's goal first and asks where that is a Yes.
     ///
     /// The response is of the key of the trait's goal: it speaks of the variables of the environment and of the projection, in the order in
     /// which they first occur, the environment first, and last of the new one, whose value is the type that the projection is. The new one is

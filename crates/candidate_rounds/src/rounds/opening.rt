@@ -1,15 +1,15 @@
 //! Aliases that may be any type: a fresh variable stands for each, and what they are is left to be proved.
 
 ghost use Rattle.std.specs.Prelude.{false, map, true, ◌≡◌, ◌<◌, ◌&&◌, ◌⊎◌, All, IfErr, IfOk, MatchOption, None, OnErr, OnOk, Some, length};
-ghost use Rattle.candidate_ir.specs.Instantiation.Folding.{IsSubstStop};
-ghost use Rattle.candidate_ir.specs.Instantiation.Folds.{IsArg, arg_tree};
-ghost use Rattle.candidate_ir.specs.Declarations.Context.{Grows, parameter_kind};
-ghost use Rattle.candidate_ir.specs.Instantiation.Folds.{IsOfKind};
-ghost use Rattle.candidate_ir.specs.Syntax.Kinds.{arg_kind, arg_number};
-ghost use Rattle.candidate_ir.specs.Syntax.Nodes.{tree_at};
-ghost use Rattle.candidate_ir.specs.Syntax.Trees.{ConstantKind, holds, is_alias, is_type};
-ghost use Rattle.candidate_ir.specs.Syntax.Words.{IsArgs, IsClause, IsConst, IsParamEnv, IsTy, args_forest, clause_tree, const_tree, env_forest, ty_tree};
-ghost use Rattle.candidate_ir.specs.Unification.Substitutions.{alone};
+ghost use Rattle.ir_trees.specs.Instantiation.Folding.{IsSubstStop};
+ghost use Rattle.ir_trees.specs.Instantiation.Folds.{IsArg, arg_tree};
+ghost use Rattle.ir_trees.specs.Declarations.Context.{Grows, parameter_kind};
+ghost use Rattle.ir_trees.specs.Instantiation.Folds.{IsOfKind};
+ghost use Rattle.ir_trees.specs.Syntax.Kinds.{arg_kind, arg_number};
+ghost use Rattle.ir_trees.specs.Syntax.Nodes.{tree_at};
+ghost use Rattle.ir_trees.specs.Syntax.Trees.{ConstantKind, holds, is_alias, is_type};
+ghost use Rattle.ir_trees.specs.Syntax.Words.{IsArgs, IsClause, IsConst, IsParamEnv, IsTy, args_forest, clause_tree, const_tree, env_forest, ty_tree};
+ghost use Rattle.ir_trees.specs.Unification.Substitutions.{alone};
 ghost use Rattle.candidate_eval.specs.Interface.Accounts.{if_refused, if_stopped};
 ghost use Rattle.candidate_eval.specs.Interface.Evaluators.{IsGoal, NoFault, kinds_listed, pendings_of};
 ghost use Rattle.candidate_eval.specs.Interface.Noting.{HasWideNode, IsNotingStop};
@@ -32,17 +32,17 @@ use crate::rounds::values::is_alias;
 use candidate_eval::eval::context::EvalCtxt;
 use candidate_eval::eval::refusal::NoSolutionOrStop;
 use candidate_eval::eval::variable::VariableKind;
-use candidate_ir::decl::answering::{PureFolder, fold_answers};
-use candidate_ir::decl::context::Cx;
-use candidate_ir::decl::make::Build;
-use candidate_ir::ir::heads::{ConstHead, Flag, Head, Marks, VariableSort};
-use candidate_ir::ir::kinds::{
+use ir_context::decl::context::Cx;
+use ir_context::decl::make::Build;
+use ir_folds::decl::answering::{PureFolder, fold_answers};
+use ir_trees::ir::heads::{ConstHead, Flag, Head, Marks, VariableSort};
+use ir_trees::ir::kinds::{
     Args, Binder, Clause, ClauseKind, Const, GenericArg, Goal, GoalSource, ParamEnv, Ty, VarKind,
 };
-use candidate_ir::ir::numbered::Numbered;
-use candidate_ir::ir::stop::Stop;
-use candidate_ir::ir::trees::Trees;
-use candidate_ir::ir::walked::Walked;
+use ir_trees::ir::numbered::Numbered;
+use ir_trees::ir::stop::Stop;
+use ir_trees::ir::trees::Trees;
+use ir_trees::ir::walked::Walked;
 use std::alloc::Global;
 
 /// The type or constant that a number is, if no bound variable escapes from it.

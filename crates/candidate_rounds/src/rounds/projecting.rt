@@ -1,8 +1,8 @@
 //! The type that a projection is gets known, by the response that `Rounds::normalize` answers; and the goals that are pending are taken.
 
 ghost use Rattle.std.specs.Prelude.{◌≡◌, ◌++◌, ◌∷◌, [], length, None, Some, IfErr, IfOk, OnErr, OnOk};
-ghost use Rattle.candidate_ir.specs.declared.ir.heads.VariableSort.{VariableSort};
-ghost use Rattle.candidate_ir.specs.Syntax.Words.{IsTy, ty_tree};
+ghost use Rattle.ir_trees.specs.declared.ir.heads.VariableSort.{VariableSort};
+ghost use Rattle.ir_trees.specs.Syntax.Words.{IsTy, ty_tree};
 ghost use Rattle.candidate_eval.specs.declared.eval.variable.VariableKind.{VariableKind};
 ghost use Rattle.candidate_eval.specs.Interface.Accounts.{if_refused, if_stopped};
 ghost use Rattle.candidate_eval.specs.Interface.Evaluators.{IsGoal, Keeps, pendings_of};
@@ -25,8 +25,8 @@ use crate::rounds::normalizing::{TERM, add_term, term, trait_predicate};
 use candidate_eval::eval::refusal::NoSolutionOrStop;
 use candidate_eval::eval::response::CanonicalResponse;
 use candidate_eval::eval::variable::CanonicalVar;
-use candidate_ir::ir::kinds::{AliasTy, Clause, Goal, GoalSource, ParamEnv, Ty};
-use candidate_ir::ir::stop::Stop;
+use ir_trees::ir::kinds::{AliasTy, Clause, Goal, GoalSource, ParamEnv, Ty};
+use ir_trees::ir::stop::Stop;
 use std::alloc::Global;
 
 /// The key of the goal of a projection's trait, with one more variable, the last, that stands for the type that the projection is.

@@ -1,10 +1,10 @@
 //! Pairs of numbers that meet again: what a look at them would do is done already, unless it changes the state each time.
 
 ghost use Rattle.std.specs.Prelude.{◌≡◌, ◌<◌, length, true, false, None, IfSome};
-ghost use Rattle.candidate_ir.specs.Declarations.Context.{Grows};
-ghost use Rattle.candidate_ir.specs.Instantiation.Folds.{IsArg, arg_tree};
-ghost use Rattle.candidate_ir.specs.Syntax.Nodes.{tree_at};
-ghost use Rattle.candidate_ir.specs.Syntax.Trees.{variable_number};
+ghost use Rattle.ir_trees.specs.Declarations.Context.{Grows};
+ghost use Rattle.ir_trees.specs.Instantiation.Folds.{IsArg, arg_tree};
+ghost use Rattle.ir_trees.specs.Syntax.Nodes.{tree_at};
+ghost use Rattle.ir_trees.specs.Syntax.Trees.{variable_number};
 ghost use Rattle.candidate_eval.specs.declared.eval.mode.TypingMode.{TypingMode};
 ghost use Rattle.candidate_eval.specs.Interface.Evaluators.{NoFault};
 ghost use Rattle.rounds_judge.specs.Equations.Active.{AreOne};
@@ -17,13 +17,13 @@ use crate::rounds::inference::Inference;
 use crate::rounds::resolving::{kept_value, resolved_arg};
 use crate::rounds::values::normalized;
 use candidate_eval::eval::variable::VariableKind;
-use candidate_ir::decl::context::Cx;
-use candidate_ir::ir::heads::Head;
-use candidate_ir::ir::kinds::{GenericArg, RegionKind, Ty};
-use candidate_ir::ir::numbered::Numbered;
-use candidate_ir::ir::trees::Trees;
-use candidate_ir::ir::walked::Walked;
 use indexmap::IndexSet;
+use ir_context::decl::context::Cx;
+use ir_trees::ir::heads::Head;
+use ir_trees::ir::kinds::{GenericArg, RegionKind, Ty};
+use ir_trees::ir::numbered::Numbered;
+use ir_trees::ir::trees::Trees;
+use ir_trees::ir::walked::Walked;
 use std::alloc::Global;
 
 /// So many pairs aren't noted, so that a small equation takes no memory.

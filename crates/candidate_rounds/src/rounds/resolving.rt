@@ -1,13 +1,13 @@
 //! What variables stand for.
 
 ghost use Rattle.std.specs.Prelude.{◌≡◌, ◌<◌, length, false, true, None, MatchOption, IfOk, IfErr};
-ghost use Rattle.candidate_ir.specs.Declarations.Context.{Grows};
-ghost use Rattle.candidate_ir.specs.Instantiation.Folding.{IsSubstStop};
-ghost use Rattle.candidate_ir.specs.Instantiation.Folds.{IsArg, arg_tree};
-ghost use Rattle.candidate_ir.specs.Syntax.Kinds.{arg_kind, arg_number};
-ghost use Rattle.candidate_ir.specs.Syntax.Nodes.{kind_at, tree_at};
-ghost use Rattle.candidate_ir.specs.Unification.Substitutions.{alone, row_of};
-ghost use Rattle.candidate_ir.specs.Syntax.Trees.{RegionKind, TypeKind, is_list_kind};
+ghost use Rattle.ir_trees.specs.Declarations.Context.{Grows};
+ghost use Rattle.ir_trees.specs.Instantiation.Folding.{IsSubstStop};
+ghost use Rattle.ir_trees.specs.Instantiation.Folds.{IsArg, arg_tree};
+ghost use Rattle.ir_trees.specs.Syntax.Kinds.{arg_kind, arg_number};
+ghost use Rattle.ir_trees.specs.Syntax.Nodes.{kind_at, tree_at};
+ghost use Rattle.ir_trees.specs.Unification.Substitutions.{alone, row_of};
+ghost use Rattle.ir_trees.specs.Syntax.Trees.{RegionKind, TypeKind, is_list_kind};
 ghost use Rattle.candidate_eval.specs.Interface.Evaluators.{NoFault, resolved_root};
 ghost use Rattle.candidate_eval.specs.Judges.States.{resolved, resolved_tree, same_kind, value_as};
 ghost use Rattle.candidate_eval.specs.declared.eval.mode.TypingMode.{TypingMode};
@@ -19,14 +19,14 @@ ghost use Rattle.candidate_rounds.specs.Calls.Lone.{IsLone, has_number, infer_at
 use crate::rounds::Rounds;
 use crate::rounds::inference::Inference;
 use candidate_eval::eval::variable::VariableKind;
-use candidate_ir::decl::answering::{PureFolder, fold_answers};
-use candidate_ir::decl::context::Cx;
-use candidate_ir::ir::heads::{Head, Marks, Variable, VariableSort};
-use candidate_ir::ir::kinds::{ConstKind, GenericArg, Region, RegionKind as Kind, Ty, TyKind};
-use candidate_ir::ir::marks::Unsolved;
-use candidate_ir::ir::numbered::Numbered;
-use candidate_ir::ir::stop::Stop;
-use candidate_ir::ir::trees::Trees;
+use ir_context::decl::context::Cx;
+use ir_folds::decl::answering::{PureFolder, fold_answers};
+use ir_trees::ir::heads::{Head, Marks, Variable, VariableSort};
+use ir_trees::ir::kinds::{ConstKind, GenericArg, Region, RegionKind as Kind, Ty, TyKind};
+use ir_trees::ir::marks::Unsolved;
+use ir_trees::ir::numbered::Numbered;
+use ir_trees::ir::stop::Stop;
+use ir_trees::ir::trees::Trees;
 use std::alloc::Global;
 
 /// What no walk is needed for.

@@ -2,13 +2,13 @@
 
 ghost use Rattle.std.specs.Prelude.{◌≡◌, ◌<◌, ◌++◌, [], true, Some, None, length, map, slice_get, option_map, IfErr, IfOk, IfSome, MatchOption};
 ghost use Rattle.std.specs.Option.{option_to_list};
-ghost use Rattle.candidate_ir.specs.Declarations.Context.{Grows};
+ghost use Rattle.ir_trees.specs.Declarations.Context.{Grows};
 ghost use Rattle.candidate_eval.specs.Interface.Evaluators.{NoFault};
-ghost use Rattle.candidate_ir.specs.Instantiation.Folds.{IsArg, IsOfKind, arg_tree};
-ghost use Rattle.candidate_ir.specs.Syntax.Nodes.{kind_at, tree_at};
-ghost use Rattle.candidate_ir.specs.Unification.Substitutions.{alone, row_of};
-ghost use Rattle.candidate_ir.specs.Syntax.Trees.{is_list_kind, variable_number};
-ghost use Rattle.candidate_ir.specs.Syntax.Words.{ClauseListFits, IsArgs, IsClause, args_forest, clause_tree};
+ghost use Rattle.ir_trees.specs.Instantiation.Folds.{IsArg, IsOfKind, arg_tree};
+ghost use Rattle.ir_trees.specs.Syntax.Nodes.{kind_at, tree_at};
+ghost use Rattle.ir_trees.specs.Unification.Substitutions.{alone, row_of};
+ghost use Rattle.ir_trees.specs.Syntax.Trees.{is_list_kind, variable_number};
+ghost use Rattle.ir_trees.specs.Syntax.Words.{ClauseListFits, IsArgs, IsClause, args_forest, clause_tree};
 ghost use Rattle.candidate_eval.specs.Outcomes.ResponseTrees.{IsResponse, response_of};
 ghost use Rattle.candidate_eval.specs.Judges.States.{resolved_tree, variable};
 ghost use Rattle.candidate_eval.specs.declared.eval.mode.TypingMode.{TypingMode};
@@ -28,15 +28,15 @@ use crate::rounds::resolving::{Lone, resolved};
 use candidate_eval::eval::certainty::Certainty;
 use candidate_eval::eval::response::CanonicalResponse;
 use candidate_eval::eval::variable::{CanonicalVar, VariableKind};
-use candidate_ir::decl::answering::{PureFolder, fold_answers};
-use candidate_ir::decl::context::Cx;
-use candidate_ir::ir::heads::{Marks, VariableSort};
-use candidate_ir::ir::kinds::{Args, Clause, ConstKind, GenericArg, RegionKind, TyKind};
-use candidate_ir::ir::marks::Unsolved;
-use candidate_ir::ir::numbered::Numbered;
-use candidate_ir::ir::stop::Stop;
-use candidate_ir::ir::trees::Trees;
-use candidate_ir::ir::walked::Walked;
+use ir_context::decl::context::Cx;
+use ir_folds::decl::answering::{PureFolder, fold_answers};
+use ir_trees::ir::heads::{Marks, VariableSort};
+use ir_trees::ir::kinds::{Args, Clause, ConstKind, GenericArg, RegionKind, TyKind};
+use ir_trees::ir::marks::Unsolved;
+use ir_trees::ir::numbered::Numbered;
+use ir_trees::ir::stop::Stop;
+use ir_trees::ir::trees::Trees;
+use ir_trees::ir::walked::Walked;
 use std::alloc::Global;
 
 /// The place of a number among these; where it isn't there, how many they are.

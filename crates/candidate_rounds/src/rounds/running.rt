@@ -2,11 +2,11 @@
 
 ghost use Rattle.std.specs.Prelude.{List, ◌≡◌, ◌+◌, ◌<◌, ◌≤◌, ◌⊎◌, ◌++◌, ◌∷◌, [], vec_capacity, vec_len, true, false, map, reverse, length, slice_get, None, Some, IfErr, IfOk, IsFalse, IsTrue, OnOk, OnErr, MatchOption, option_map};
 ghost use Rattle.std.specs.Option.{option_copied};
-ghost use Rattle.candidate_ir.specs.declared.ir.stop.Stop.{Stop};
-ghost use Rattle.candidate_ir.specs.Declarations.Context.{Grows};
-ghost use Rattle.candidate_ir.specs.Declarations.References.{IsWellFormed};
+ghost use Rattle.ir_trees.specs.declared.ir.stop.Stop.{Stop};
+ghost use Rattle.ir_trees.specs.Declarations.Context.{Grows};
+ghost use Rattle.ir_trees.specs.Declarations.References.{IsWellFormed};
 ghost use Rattle.candidate_eval.specs.Interface.Evaluators.{NoFault};
-ghost use Rattle.candidate_ir.specs.Syntax.Trees.{Tree};
+ghost use Rattle.ir_trees.specs.Syntax.Trees.{Tree};
 ghost use Rattle.candidate_assembly.specs.Goals.Standing.{GoalIsValid};
 ghost use Rattle.candidate_assembly.specs.Answers.Backing.{AnswerIsBacked};
 ghost use Rattle.candidate_assembly.specs.Answers.TraitAnswers.{Computes};
@@ -43,11 +43,11 @@ use candidate_eval::eval::clauses::predicate_in;
 use candidate_eval::eval::mode::TypingMode;
 use candidate_eval::eval::refusal::NoSolutionOrStop;
 use candidate_eval::eval::response::CanonicalResponse;
-use candidate_ir::decl::context::Cx;
-use candidate_ir::decl::make::Build;
-use candidate_ir::ir::kinds::{Binder, Clause, ClauseKind, Goal, ParamEnv, TraitPredicate};
-use candidate_ir::ir::stop::Stop;
-use candidate_ir::ir::trees::Trees;
+use ir_context::decl::context::Cx;
+use ir_context::decl::make::Build;
+use ir_trees::ir::kinds::{Binder, Clause, ClauseKind, Goal, ParamEnv, TraitPredicate};
+use ir_trees::ir::stop::Stop;
+use ir_trees::ir::trees::Trees;
 use std::alloc::Global;
 
 /// What was known before a goal is computed, put aside meanwhile.

@@ -2,15 +2,15 @@
 
 ghost use Rattle.std.specs.Prelude.{◌≡◌, ◌&&◌, ◌++◌, [], false, IfErr, IfOk, IfSome, None, OnErr, OnOk, Some};
 ghost use Rattle.std.specs.Option.{option_to_list};
-ghost use Rattle.candidate_ir.specs.Declarations.Context.{world};
-ghost use Rattle.candidate_ir.specs.Declarations.References.{Takes};
-ghost use Rattle.candidate_ir.specs.Hierarchy.Supers.{after_first};
-ghost use Rattle.candidate_ir.specs.Instantiation.Folds.{IsArg, arg_tree};
-ghost use Rattle.candidate_ir.specs.Unification.Substitutions.{alone};
-ghost use Rattle.candidate_ir.specs.Syntax.Trees.{none, tree};
-ghost use Rattle.candidate_ir.specs.Syntax.Words.{IsClause, IsParamEnv, IsTy, KindFits, clause_tree, env_forest, kind_tree, ty_tree};
-ghost use Rattle.candidate_ir.specs.declared.ir.heads.Head.TheVariants as H;
-ghost use Rattle.candidate_ir.specs.declared.ir.heads.PartHead.TheVariants as P;
+ghost use Rattle.ir_trees.specs.Declarations.Context.{world};
+ghost use Rattle.ir_trees.specs.Declarations.References.{Takes};
+ghost use Rattle.ir_trees.specs.Hierarchy.Supers.{after_first};
+ghost use Rattle.ir_trees.specs.Instantiation.Folds.{IsArg, arg_tree};
+ghost use Rattle.ir_trees.specs.Unification.Substitutions.{alone};
+ghost use Rattle.ir_trees.specs.Syntax.Trees.{none, tree};
+ghost use Rattle.ir_trees.specs.Syntax.Words.{IsClause, IsParamEnv, IsTy, KindFits, clause_tree, env_forest, kind_tree, ty_tree};
+ghost use Rattle.ir_trees.specs.declared.ir.heads.Head.TheVariants as H;
+ghost use Rattle.ir_trees.specs.declared.ir.heads.PartHead.TheVariants as P;
 ghost use Rattle.candidate_eval.specs.Derivations.Characterization.{bound_kinds};
 ghost use Rattle.candidate_eval.specs.Interface.Evaluators.{IsGoal, kinds_listed, pending_of, pendings_of, with_left};
 ghost use Rattle.candidate_eval.specs.Judges.States.{added, with_pending};
@@ -31,15 +31,15 @@ use crate::rounds::table::Found;
 use candidate_eval::eval::certainty::Certainty;
 use candidate_eval::eval::context::EvalCtxt;
 use candidate_eval::eval::refusal::NoSolutionOrStop;
-use candidate_ir::decl::make::Build;
-use candidate_ir::decl::open::{binder_kinds, open_clause};
-use candidate_ir::ir::heads::Flag;
-use candidate_ir::ir::kinds::{
+use ir_context::decl::make::Build;
+use ir_folds::decl::open::{binder_kinds, open_clause};
+use ir_trees::ir::heads::Flag;
+use ir_trees::ir::kinds::{
     AliasTy, Clause, ClauseKind, GenericArg, Goal, GoalSource, ParamEnv, ProjectionPredicate, Ty,
     TyKind, VarKind,
 };
-use candidate_ir::ir::stop::Stop;
-use candidate_ir::ir::trees::Trees;
+use ir_trees::ir::stop::Stop;
+use ir_trees::ir::trees::Trees;
 use std::alloc::Global;
 
 impl Rounds {

@@ -1,8 +1,8 @@
 //! Whether a goal stands at what is known, so that it may be asked.
 
 ghost use Rattle.std.specs.Prelude.{◌≡◌, true, nat_lt, not, refl, slice_get};
-ghost use Rattle.candidate_ir.specs.Declarations.References.{ArgumentsFit};
-ghost use Rattle.candidate_ir.specs.Syntax.Words.{IsArgs, IsParamEnv, args_forest, env_forest};
+ghost use Rattle.ir_trees.specs.Declarations.References.{ArgumentsFit};
+ghost use Rattle.ir_trees.specs.Syntax.Words.{IsArgs, IsParamEnv, args_forest, env_forest};
 ghost use Rattle.candidate_assembly.specs.Goals.KindShown.{IsGoal, trait_kind};
 ghost use Rattle.candidate_assembly.specs.Goals.Standing.{GoalIsValid, IsValidAt};
 ghost use Rattle.candidate_assembly.specs.Goals.TraitGoals.{trait_goal};
@@ -15,10 +15,10 @@ use crate::rounds::inference::Inference;
 use crate::rounds::keys::stands;
 use crate::rounds::resolving::is_same_kind;
 use candidate_eval::eval::variable::VariableKind;
-use candidate_ir::ir::heads::VariableSort;
-use candidate_ir::ir::kinds::{Args, ConstKind, ParamEnv, RegionKind, TraitPredicate, TyKind};
-use candidate_ir::ir::marks::Mark;
-use candidate_ir::ir::node::Node;
+use ir_trees::ir::heads::VariableSort;
+use ir_trees::ir::kinds::{Args, ConstKind, ParamEnv, RegionKind, TraitPredicate, TyKind};
+use ir_trees::ir::marks::Mark;
+use ir_trees::ir::node::Node;
 use std::alloc::Global;
 
 /// The mark of what is strange to what is known: a variable that isn't there, is of another kind or has a value, or a placeholder of a

@@ -1,10 +1,10 @@
 //! The state: variables, goals, probes.
 
 ghost use Rattle.std.specs.Prelude.{false, true, ◌⊎◌, ◌<◌, ◌^◌, length, IfErr, ◌≡◌, [], ◌∷◌, IfOk, OnOk, OnErr};
-ghost use Rattle.candidate_ir.specs.Declarations.Context.{Grows};
-ghost use Rattle.candidate_ir.specs.Instantiation.Folds.{IsArg, arg_tree};
-ghost use Rattle.candidate_ir.specs.Syntax.Nodes.{rows};
-ghost use Rattle.candidate_ir.specs.Syntax.Words.{IsArgs, args_forest};
+ghost use Rattle.ir_trees.specs.Declarations.Context.{Grows};
+ghost use Rattle.ir_trees.specs.Instantiation.Folds.{IsArg, arg_tree};
+ghost use Rattle.ir_trees.specs.Syntax.Nodes.{rows};
+ghost use Rattle.ir_trees.specs.Syntax.Words.{IsArgs, args_forest};
 ghost use Rattle.candidate_eval.specs.Interface.Evaluators.{NoFault, begun, kinds_listed};
 ghost use Rattle.candidate_eval.specs.Judges.Soundness.{IsSound, Live, ValuesFit};
 ghost use Rattle.candidate_eval.specs.Judges.States.{variable, with_fresh_variables, with_universe};
@@ -21,10 +21,10 @@ use crate::rounds::goals::Goals;
 use crate::rounds::inference::Inference;
 use candidate_eval::eval::mode::TypingMode;
 use candidate_eval::eval::variable::VariableKind;
-use candidate_ir::decl::context::Cx;
-use candidate_ir::ir::kinds::{AliasTy, Args, GenericArg, Ty, VarKind};
-use candidate_ir::ir::stop::Stop;
-use candidate_ir::ir::trees::Trees;
+use ir_context::decl::context::Cx;
+use ir_trees::ir::kinds::{AliasTy, Args, GenericArg, Ty, VarKind};
+use ir_trees::ir::stop::Stop;
+use ir_trees::ir::trees::Trees;
 use std::alloc::Global;
 
 impl Rounds {

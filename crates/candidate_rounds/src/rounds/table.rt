@@ -15,8 +15,8 @@ use crate::rounds::Rounds;
 use crate::rounds::goals::{GoalKey, Verdict};
 use crate::rounds::keys::may_be_asked;
 use candidate_eval::eval::response::CanonicalResponse;
-use candidate_ir::ir::stop::Stop;
-use candidate_ir::ir::trees::Trees;
+use ir_trees::ir::stop::Stop;
+use ir_trees::ir::trees::Trees;
 use std::alloc::Global;
 
 /// What the table says of a goal.

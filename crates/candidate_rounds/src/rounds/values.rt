@@ -1,13 +1,13 @@
 //! The value for a variable that meets a tree, and what a tree is at a state.
 
 ghost use Rattle.std.specs.Prelude.{◌≡◌, ◌-◌, Some, None, IfOk, IfErr, MatchOption, length, nat_le, option_map, reverse, slice_get, if◌then◌else◌};
-ghost use Rattle.candidate_ir.specs.declared.ir.heads.Head.TheVariants as H;
-ghost use Rattle.candidate_ir.specs.Declarations.Context.{Grows};
-ghost use Rattle.candidate_ir.specs.Instantiation.Folding.{IsAnswerStop, IsSubstStop, fold};
-ghost use Rattle.candidate_ir.specs.Instantiation.Folds.{IsArg, IsOfKind, arg_tree};
-ghost use Rattle.candidate_ir.specs.Syntax.Kinds.{arg_kind};
-ghost use Rattle.candidate_ir.specs.Syntax.Trees.{is_alias};
-ghost use Rattle.candidate_ir.specs.Syntax.Words.{IsRegion, IsTy, region_kind_tree, region_tree, ty_tree, IsArgs, args_forest};
+ghost use Rattle.ir_trees.specs.declared.ir.heads.Head.TheVariants as H;
+ghost use Rattle.ir_trees.specs.Declarations.Context.{Grows};
+ghost use Rattle.ir_trees.specs.Instantiation.Folding.{IsAnswerStop, IsSubstStop, fold};
+ghost use Rattle.ir_trees.specs.Instantiation.Folds.{IsArg, IsOfKind, arg_tree};
+ghost use Rattle.ir_trees.specs.Syntax.Kinds.{arg_kind};
+ghost use Rattle.ir_trees.specs.Syntax.Trees.{is_alias};
+ghost use Rattle.ir_trees.specs.Syntax.Words.{IsRegion, IsTy, region_kind_tree, region_tree, ty_tree, IsArgs, args_forest};
 ghost use Rattle.candidate_eval.specs.declared.eval.mode.TypingMode.{TypingMode};
 ghost use Rattle.candidate_eval.specs.Interface.Evaluators.{NoFault, resolved_root};
 ghost use Rattle.candidate_eval.specs.Judges.States.{resolved_tree};
@@ -21,14 +21,14 @@ ghost use Rattle.rounds_judge.specs.Equations.Scopes.{placed_head, placed_tree};
 use crate::rounds::Rounds;
 use crate::rounds::inference::Inference;
 use crate::rounds::resolving::{resolved_arg, resolved_root};
-use candidate_ir::decl::answering::{PureFolder, fold_answers};
-use candidate_ir::decl::context::Cx;
-use candidate_ir::decl::make::Build;
-use candidate_ir::ir::heads::{ConstHead, Flag, Head, Marks};
-use candidate_ir::ir::kinds::{Args, GenericArg, Placeholder, Region, RegionKind, Ty};
-use candidate_ir::ir::numbered::Numbered;
-use candidate_ir::ir::stop::Stop;
-use candidate_ir::ir::trees::Trees;
+use ir_context::decl::context::Cx;
+use ir_context::decl::make::Build;
+use ir_folds::decl::answering::{PureFolder, fold_answers};
+use ir_trees::ir::heads::{ConstHead, Flag, Head, Marks};
+use ir_trees::ir::kinds::{Args, GenericArg, Placeholder, Region, RegionKind, Ty};
+use ir_trees::ir::numbered::Numbered;
+use ir_trees::ir::stop::Stop;
+use ir_trees::ir::trees::Trees;
 use std::alloc::Global;
 
 /// The type of the first of these pairs that lists the type, if one does.

@@ -1,9 +1,9 @@
 //! Walks over the trees of numbers that go once into each number: equal trees have one number, and may stand in many places.
 
 ghost use Rattle.std.specs.Prelude.{◌≡◌, ◌<◌, length, true, false, refl};
-ghost use Rattle.candidate_ir.specs.Calls.Walked.{AreWithout};
-ghost use Rattle.candidate_ir.specs.Syntax.Nodes.{kind_at, tree_at};
-ghost use Rattle.candidate_ir.specs.Syntax.Trees.{holds, is_list_kind, tree_holds};
+ghost use Rattle.ir_trees.specs.Calls.Walked.{AreWithout};
+ghost use Rattle.ir_trees.specs.Syntax.Nodes.{kind_at, tree_at};
+ghost use Rattle.ir_trees.specs.Syntax.Trees.{holds, is_list_kind, tree_holds};
 ghost use Rattle.candidate_eval.specs.declared.eval.mode.TypingMode.{TypingMode};
 ghost use Rattle.rounds_judge.specs.Equations.Active.{is_active};
 ghost use Rattle.candidate_rounds.specs.Calls.Walking.{is_active_at, is_kept};
@@ -12,13 +12,13 @@ ghost use Rattle.candidate_rounds.specs.Evaluators.Known.{state_of};
 use crate::rounds::inference::Inference;
 use crate::rounds::resolving::kept_value;
 use candidate_eval::eval::variable::VariableKind;
-use candidate_ir::decl::context::Cx;
-use candidate_ir::ir::heads::{Variable, VariableSort};
-use candidate_ir::ir::kinds::{ConstKind, TyKind};
-use candidate_ir::ir::marks::{Mark, number_holds};
-use candidate_ir::ir::node::Node;
-use candidate_ir::ir::numbered::Numbered;
-use candidate_ir::ir::walked::Walked;
+use ir_context::decl::context::Cx;
+use ir_trees::ir::heads::{Variable, VariableSort};
+use ir_trees::ir::kinds::{ConstKind, TyKind};
+use ir_trees::ir::marks::{Mark, number_holds};
+use ir_trees::ir::node::Node;
+use ir_trees::ir::numbered::Numbered;
+use ir_trees::ir::walked::Walked;
 use std::alloc::Global;
 
 /// The mark of what is active where two equal trees meet.

@@ -1,7 +1,7 @@
 //! What a round writes into the table.
 
 ghost use Rattle.std.specs.Prelude.{List, ◌≡◌, [], IsFalse, IsTrue, length};
-ghost use Rattle.candidate_ir.specs.Syntax.Trees.{Tree};
+ghost use Rattle.ir_trees.specs.Syntax.Trees.{Tree};
 ghost use Rattle.candidate_eval.specs.Outcomes.ResponseTrees.{IsCopy};
 ghost use Rattle.candidate_rounds.specs.Calls.Writing.{ChangeTable, MakesOther, SayOther};
 ghost use Rattle.candidate_rounds.specs.Table.Entries.{all_written_into, write_verdict};

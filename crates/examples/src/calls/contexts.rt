@@ -1,12 +1,12 @@
 //! Callers of calls of contexts and of their builder.
 
 ghost use Rattle.std.specs.Prelude.{◌≡◌, ◌++◌, ◌∷◌, [], map, false, IfOk, IfSome};
-ghost use Rattle.candidate_ir.specs.Declarations.Context.{Grows};
-ghost use Rattle.candidate_ir.specs.Declarations.Declaring.{with_impl};
-ghost use Rattle.candidate_ir.specs.Hierarchy.Elaboration.{AreSupertraits, AreSupertraitIds, id_numbers};
-ghost use Rattle.candidate_ir.specs.Instantiation.Folds.{IsArg, IsOfKind};
-ghost use Rattle.candidate_ir.specs.Syntax.Words.{IsTy, IsArgs, IsClause, IsSig, IsVars, ClauseListFits, clause_tree};
-ghost use Rattle.candidate_ir.specs.Unification.Impls.{blanket_impls};
+ghost use Rattle.ir_trees.specs.Declarations.Context.{Grows};
+ghost use Rattle.ir_trees.specs.Declarations.Declaring.{with_impl};
+ghost use Rattle.ir_trees.specs.Hierarchy.Elaboration.{AreSupertraits, AreSupertraitIds, id_numbers};
+ghost use Rattle.ir_trees.specs.Instantiation.Folds.{IsArg, IsOfKind};
+ghost use Rattle.ir_trees.specs.Syntax.Words.{IsTy, IsArgs, IsClause, IsSig, IsVars, ClauseListFits, clause_tree};
+ghost use Rattle.ir_trees.specs.Unification.Impls.{blanket_impls};
 ghost use Rattle.candidate_eval.specs.Builtins.Asked.{ArePartsIn};
 ghost use Rattle.candidate_eval.specs.Builtins.Destruct.{AreReferences};
 ghost use Rattle.candidate_eval.specs.Outcomes.ResponseTrees.{IsResponse};
@@ -24,18 +24,20 @@ use candidate_eval::structural::callable::{
 use candidate_eval::structural::destruct::const_conditions_for_destruct;
 use candidate_eval::structural::tables::{has_cell, instantiate_constituent_tys_for_auto_trait};
 use candidate_eval::structural::{Column, Constituents};
-use candidate_ir::decl::contents::ImplId;
-use candidate_ir::decl::elaborate::{implied, supertrait_def_ids, supertraits};
-use candidate_ir::decl::fold::fold;
-use candidate_ir::decl::make::Build;
-use candidate_ir::decl::open::open_clause;
-use candidate_ir::decl::parameters::has_arguments;
-use candidate_ir::decl::{Cx, DeclFault, DeclsBuilder};
-use candidate_ir::ir::kinds::{
+use ir_builder::decl::DeclsBuilder;
+use ir_context::decl::Cx;
+use ir_context::decl::make::Build;
+use ir_folds::decl::elaborate::{implied, supertrait_def_ids, supertraits};
+use ir_folds::decl::fold::fold;
+use ir_folds::decl::open::open_clause;
+use ir_folds::decl::parameters::has_arguments;
+use ir_trees::decl::DeclFault;
+use ir_trees::decl::contents::ImplId;
+use ir_trees::ir::kinds::{
     Args, Binder, Clause, ClosureSig, GenericArg, Sig, TraitId, TraitRef, Ty, TyKind, UintTy, Vars,
 };
-use candidate_ir::ir::stop::Stop;
-use candidate_ir::ir::trees::Trees;
+use ir_trees::ir::stop::Stop;
+use ir_trees::ir::trees::Trees;
 use std::alloc::Global;
 
 /// Adds a clause to those that the impl has for its trait's super clauses about regions.

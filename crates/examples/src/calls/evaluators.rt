@@ -1,7 +1,7 @@
 //! Callers of calls of any evaluator.
 
 ghost use Rattle.std.specs.Prelude.{◌≡◌, [], All, None, IfOk};
-ghost use Rattle.candidate_ir.specs.Syntax.Words.{IsTy, IsArgs, IsClause, IsParamEnv, ClauseListFits};
+ghost use Rattle.ir_trees.specs.Syntax.Words.{IsTy, IsArgs, IsClause, IsParamEnv, ClauseListFits};
 ghost use Rattle.candidate_eval.specs.Dynamic.Calls.{bound_matches_here};
 ghost use Rattle.candidate_eval.specs.Interface.Evaluators.{IsGoal as IsClauseGoal};
 ghost use Rattle.candidate_eval.specs.Interface.Shown.{Keeps, LeavesAlike, view};
@@ -14,12 +14,12 @@ use candidate_eval::eval::refusal::NoSolutionOrStop;
 use candidate_eval::eval::resolving::resolve_env_if_possible;
 use candidate_eval::eval::response::{Candidate, CanonicalResponse};
 use candidate_eval::objects::object::{bound_matches, matching_bounds};
-use candidate_ir::decl::make::Build;
-use candidate_ir::ir::kinds::{
+use ir_context::decl::make::Build;
+use ir_trees::ir::kinds::{
     AliasTerm, Args, Binder, Clause, GenericArg, Goal, GoalSource, ParamEnv, Ty, VarKind,
 };
-use candidate_ir::ir::stop::Stop;
-use candidate_ir::ir::trees::Trees;
+use ir_trees::ir::stop::Stop;
+use ir_trees::ir::trees::Trees;
 use std::alloc::Global;
 
 /// The response that too little is known.

@@ -1,7 +1,7 @@
 //! Callers of calls for goals of traits and of projections, and of an evaluator of rounds.
 
 ghost use Rattle.std.specs.Prelude.{◌≡◌, IfOk, IfSome};
-ghost use Rattle.candidate_ir.specs.Syntax.Words.{IsTy, IsArgs, IsClause, IsParamEnv};
+ghost use Rattle.ir_trees.specs.Syntax.Words.{IsTy, IsArgs, IsClause, IsParamEnv};
 ghost use Rattle.candidate_eval.specs.Interface.Shown.{Keeps, KeepsBut};
 ghost use Rattle.candidate_eval.specs.Outcomes.ResponseTrees.{IsResponse, response_of};
 ghost use Rattle.candidate_assembly.specs.Goals.KindShown.{IsGoal, trait_kind};
@@ -29,14 +29,14 @@ use candidate_eval::eval::context::EvalCtxt;
 use candidate_eval::eval::refusal::NoSolutionOrStop;
 use candidate_eval::eval::response::{Candidate, CanonicalResponse};
 use candidate_eval::eval::source::{BuiltinImplSource, CandidateSource, ParamEnvSource};
-use candidate_ir::decl::Cx;
-use candidate_ir::decl::contents::ImplId;
-use candidate_ir::decl::make::Build;
-use candidate_ir::ir::heads::Flag;
-use candidate_ir::ir::kinds::{Clause, ParamEnv, TraitPredicate};
-use candidate_ir::ir::stop::Stop;
-use candidate_ir::ir::trees::Trees;
 use candidate_rounds::rounds::Rounds;
+use ir_context::decl::Cx;
+use ir_context::decl::make::Build;
+use ir_trees::decl::contents::ImplId;
+use ir_trees::ir::heads::Flag;
+use ir_trees::ir::kinds::{Clause, ParamEnv, TraitPredicate};
+use ir_trees::ir::stop::Stop;
+use ir_trees::ir::trees::Trees;
 use projection_goals::kind::NormalizesTo;
 use projection_goals::proving::compute_normalizes_to;
 use std::alloc::Global;

@@ -3,9 +3,9 @@ use Rattle.std.proofs.Common.{◌≡◌, Bool, List, true, false, not, [], ◌�
 use Rattle.std.specs.List.{All}
 use Rattle.std.proofs.lemmas.Bool.{and_parts, not-true}
 use Rattle.std.proofs.lemmas.List.Elements.{All-cons, All-head, All-nil, All-tail}
-use Rattle.candidate_ir.specs.Syntax.Binders.{escapes}
-use Rattle.candidate_ir.specs.Unification.Substitutions.{alone}
-use Rattle.candidate_ir.specs.Syntax.Trees.{Tree, holds, is_alias, is_param, is_type}
+use Rattle.ir_trees.specs.Syntax.Binders.{escapes}
+use Rattle.ir_trees.specs.Unification.Substitutions.{alone}
+use Rattle.ir_trees.specs.Syntax.Trees.{Tree, holds, is_alias, is_param, is_type}
 use Rattle.rounds_judge.specs.Aliases.Listed.{Listing}
 use Rattle.rounds_judge.specs.Equations.Standing.{IsFixed, IsListed, IsListing, is_made}
 use Rattle.rounds_judge.specs.Aliases.WellListed.{is_fixed, may_be_listed, well_listed, which_may_be}

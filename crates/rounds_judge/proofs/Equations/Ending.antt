@@ -4,16 +4,16 @@ use Rattle.std.specs.Option.{unwrap_or, option_map}
 use Rattle.std.proofs.Math.Nat.{mul-add, le_trans}
 use Rattle.std.proofs.lemmas.Nat.{mul-le}
 use Rattle.std.proofs.lemmas.Bool.{false_from_ne_true, eqb-true, eq-eqb, and_from, and_parts, not-true}
-use Rattle.candidate_ir.specs.declared.ir.heads.Head.{Head}
-use Rattle.candidate_ir.specs.declared.ir.heads.Head.TheVariants as H
-use Rattle.candidate_ir.specs.declared.ir.heads.Variable.{Variable}
-use Rattle.candidate_ir.specs.declared.ir.kinds.RegionKind.TheVariants as R
-use Rattle.candidate_ir.specs.Syntax.Trees.{Forest, none, tree, Tree, is_number}
-use Rattle.candidate_ir.specs.Unification.Substitutions.{alone, fits_sort, same_sort, same_variable}
-use Rattle.candidate_ir.specs.Unification.Unify.{same_head}
-use Rattle.candidate_ir.proofs.Syntax.Equal.{head_is}
-use Rattle.candidate_ir.proofs.Instantiation.Folding.{begin}
-use Rattle.candidate_ir.proofs.Unification.Instances.{same_sort_is}
+use Rattle.ir_trees.specs.declared.ir.heads.Head.{Head}
+use Rattle.ir_trees.specs.declared.ir.heads.Head.TheVariants as H
+use Rattle.ir_trees.specs.declared.ir.heads.Variable.{Variable}
+use Rattle.ir_trees.specs.declared.ir.kinds.RegionKind.TheVariants as R
+use Rattle.ir_trees.specs.Syntax.Trees.{Forest, none, tree, Tree, is_number}
+use Rattle.ir_trees.specs.Unification.Substitutions.{alone, fits_sort, same_sort, same_variable}
+use Rattle.ir_trees.specs.Unification.Unify.{same_head}
+use Rattle.ir_trees.proofs.Syntax.Equal.{head_is}
+use Rattle.ir_trees.proofs.Instantiation.Folding.{begin}
+use Rattle.ir_trees.proofs.Unification.Instances.{same_sort_is}
 use Rattle.candidate_eval.specs.declared.eval.variable.VariableKind.{VariableKind}
 use Rattle.candidate_eval.specs.declared.eval.variable.VariableKind.TheVariants.{Term, Region}
 use Rattle.candidate_eval.specs.Interface.Evaluators.{root_value, resolved_root}

@@ -5,14 +5,14 @@ use Rattle.std.specs.List.{All}
 use Rattle.std.proofs.Math.Nat.{mul-add, le_trans}
 use Rattle.std.proofs.lemmas.List.Elements.{All-head, All-tail}
 use Rattle.std.proofs.lemmas.Nat.{mul-le}
-use Rattle.candidate_ir.specs.declared.ir.heads.Head.{Head}
-use Rattle.candidate_ir.specs.declared.ir.heads.Head.TheVariants as H
-use Rattle.candidate_ir.specs.declared.ir.heads.Variable.{Variable}
-use Rattle.candidate_ir.specs.Syntax.Trees.{Forest, none, tree, Tree, holds, is_alias}
-use Rattle.candidate_ir.specs.Unification.Substitutions.{alone}
-use Rattle.candidate_ir.specs.Unification.Unify.{same_head}
-use Rattle.candidate_ir.proofs.Syntax.Equal.{head_is}
-use Rattle.candidate_ir.proofs.Instantiation.Folding.{begin}
+use Rattle.ir_trees.specs.declared.ir.heads.Head.{Head}
+use Rattle.ir_trees.specs.declared.ir.heads.Head.TheVariants as H
+use Rattle.ir_trees.specs.declared.ir.heads.Variable.{Variable}
+use Rattle.ir_trees.specs.Syntax.Trees.{Forest, none, tree, Tree, holds, is_alias}
+use Rattle.ir_trees.specs.Unification.Substitutions.{alone}
+use Rattle.ir_trees.specs.Unification.Unify.{same_head}
+use Rattle.ir_trees.proofs.Syntax.Equal.{head_is}
+use Rattle.ir_trees.proofs.Instantiation.Folding.{begin}
 use Rattle.candidate_eval.specs.declared.eval.variable.VariableKind.TheVariants.{Term}
 use Rattle.candidate_eval.specs.Interface.Evaluators.{root_value, resolved_root}
 use Rattle.candidate_eval.specs.Judges.States.{State, value_in, value_at, resolved, resolved_tree, with_universe}

@@ -3,16 +3,16 @@ use Rattle.std.proofs.Common.{◌≡◌, ◌≤◌, ℕ, zero, suc, ◌+◌, Boo
 use Rattle.std.specs.List.{All}
 use Rattle.std.proofs.lemmas.List.Elements.{All-head, All-tail, All-cons, All-nil, All-weaker}
 use Rattle.std.proofs.Math.Nat.{le_trans}
-use Rattle.candidate_ir.specs.declared.ir.heads.Head.{Head}
-use Rattle.candidate_ir.specs.declared.ir.heads.Head.TheVariants as H
-use Rattle.candidate_ir.specs.declared.ir.heads.Builtin.TheVariants as B
-use Rattle.candidate_ir.specs.declared.ir.heads.PartHead.TheVariants as P
-use Rattle.candidate_ir.specs.declared.ir.heads.Variable.{Variable}
-use Rattle.candidate_ir.specs.Syntax.Trees.{Forest, none, tree, Tree, holds, binders_of}
-use Rattle.candidate_ir.specs.Syntax.Binders.{escapes}
-use Rattle.candidate_ir.specs.Unification.Substitutions.{alone}
-use Rattle.candidate_ir.specs.Unification.Unify.{same_head}
-use Rattle.candidate_ir.proofs.Syntax.Equal.{head_is}
+use Rattle.ir_trees.specs.declared.ir.heads.Head.{Head}
+use Rattle.ir_trees.specs.declared.ir.heads.Head.TheVariants as H
+use Rattle.ir_trees.specs.declared.ir.heads.Builtin.TheVariants as B
+use Rattle.ir_trees.specs.declared.ir.heads.PartHead.TheVariants as P
+use Rattle.ir_trees.specs.declared.ir.heads.Variable.{Variable}
+use Rattle.ir_trees.specs.Syntax.Trees.{Forest, none, tree, Tree, holds, binders_of}
+use Rattle.ir_trees.specs.Syntax.Binders.{escapes}
+use Rattle.ir_trees.specs.Unification.Substitutions.{alone}
+use Rattle.ir_trees.specs.Unification.Unify.{same_head}
+use Rattle.ir_trees.proofs.Syntax.Equal.{head_is}
 use Rattle.candidate_eval.specs.Judges.States.{State, with_universe}
 use Rattle.candidate_eval.specs.Judges.Soundness.{Live, IsSound, ValuesFit, IsLater, Follows, AreTreesOf, is_strange, is_region}
 use Rattle.candidate_eval.proofs.Marks.Holds.{holds_parts}

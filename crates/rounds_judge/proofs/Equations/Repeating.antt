@@ -3,15 +3,15 @@
 use Rattle.std.proofs.Common.{◌≡◌, ◌+◌, ◌&&◌, ◌||◌, ℕ, Bool, true, false, Option, Some, None, List, [], ◌∷◌, ◌++◌, refl, sym, ◌∙◌, ap, subst, if◌then◌else◌}
 use Rattle.std.specs.Option.{unwrap_or}
 use Rattle.std.proofs.lemmas.Bool.{or_parts}
-use Rattle.candidate_ir.specs.declared.ir.heads.Head.{Head}
-use Rattle.candidate_ir.specs.declared.ir.heads.Head.TheVariants as H
-use Rattle.candidate_ir.specs.declared.ir.kinds.RegionKind.TheVariants as R
-use Rattle.candidate_ir.specs.Syntax.Trees.{Forest, none, tree, Tree, is_alias, binders_of, variable_number}
-use Rattle.candidate_ir.specs.Instantiation.Folding.{fold}
-use Rattle.candidate_ir.specs.Unification.Substitutions.{alone}
-use Rattle.candidate_ir.specs.Unification.Unify.{same_head}
-use Rattle.candidate_ir.proofs.Instantiation.Folding.{fold-nothing}
-use Rattle.candidate_ir.proofs.Syntax.Equal.{head_itself}
+use Rattle.ir_trees.specs.declared.ir.heads.Head.{Head}
+use Rattle.ir_trees.specs.declared.ir.heads.Head.TheVariants as H
+use Rattle.ir_trees.specs.declared.ir.kinds.RegionKind.TheVariants as R
+use Rattle.ir_trees.specs.Syntax.Trees.{Forest, none, tree, Tree, is_alias, binders_of, variable_number}
+use Rattle.ir_trees.specs.Instantiation.Folding.{fold}
+use Rattle.ir_trees.specs.Unification.Substitutions.{alone}
+use Rattle.ir_trees.specs.Unification.Unify.{same_head}
+use Rattle.ir_trees.proofs.Instantiation.Folding.{fold-nothing}
+use Rattle.ir_trees.proofs.Syntax.Equal.{head_itself}
 use Rattle.candidate_eval.specs.Interface.Evaluators.{root_value}
 use Rattle.candidate_eval.specs.Judges.States.{State, value_at, resolved, resolved_tree, with_universe}
 use Rattle.candidate_eval.specs.Judges.Soundness.{IsResolved, has_value, is_region}

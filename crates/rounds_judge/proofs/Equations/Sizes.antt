@@ -6,14 +6,14 @@ use Rattle.std.specs.List.{All}
 use Rattle.std.proofs.lemmas.Bool.{and_parts, ne_eqb, eq-eqb}
 use Rattle.std.proofs.lemmas.List.Elements.{All-head, All-tail}
 use Rattle.std.proofs.lemmas.Nat.{mul-le}
-use Rattle.candidate_ir.specs.declared.ir.heads.Variable.{Variable}
-use Rattle.candidate_ir.specs.Syntax.Trees.{Forest, none, tree, Tree, holds, is_alias, binders_of}
-use Rattle.candidate_ir.specs.Hierarchy.Elaboration.{same_tree, same_forest}
-use Rattle.candidate_ir.specs.Instantiation.Folding.{Answers, fold}
-use Rattle.candidate_ir.specs.Unification.Substitutions.{alone}
-use Rattle.candidate_ir.specs.Unification.Unify.{same_head}
-use Rattle.candidate_ir.proofs.Syntax.Equal.{head_is}
-use Rattle.candidate_ir.proofs.Instantiation.Folding.{begin}
+use Rattle.ir_trees.specs.declared.ir.heads.Variable.{Variable}
+use Rattle.ir_trees.specs.Syntax.Trees.{Forest, none, tree, Tree, holds, is_alias, binders_of}
+use Rattle.ir_trees.specs.Hierarchy.Elaboration.{same_tree, same_forest}
+use Rattle.ir_trees.specs.Instantiation.Folding.{Answers, fold}
+use Rattle.ir_trees.specs.Unification.Substitutions.{alone}
+use Rattle.ir_trees.specs.Unification.Unify.{same_head}
+use Rattle.ir_trees.proofs.Syntax.Equal.{head_is}
+use Rattle.ir_trees.proofs.Instantiation.Folding.{begin}
 use Rattle.candidate_eval.specs.Judges.States.{VariableInfo, valued_tree}
 use Rattle.candidate_eval.proofs.Marks.Holds.{holds_parts}
 use Rattle.rounds_judge.specs.Aliases.Listed.{Listing, listed, listed_in}

@@ -1,8 +1,8 @@
 -- The judge keeps all laws of an evaluator.
 use Rattle.std.proofs.Common.{ℕ, List}
-use Rattle.candidate_ir.specs.Syntax.Trees.{Tree}
-use Rattle.candidate_ir.specs.declared.decl.limits.Limits.{Limits}
-use Rattle.candidate_ir.specs.Declarations.Worlds.{World}
+use Rattle.ir_trees.specs.Syntax.Trees.{Tree}
+use Rattle.ir_trees.specs.declared.decl.limits.Limits.{Limits}
+use Rattle.ir_trees.specs.Declarations.Worlds.{World}
 use Rattle.candidate_eval.specs.Judges.Lawful.{ResponseLaws, GrantedLaws, Lawful}
 use Rattle.rounds_judge.specs.Table.GoalTable.{GoalTable, well_entered}
 use Rattle.rounds_judge.specs.Aliases.Listed.{Listing}

@@ -1,12 +1,12 @@
 -- No parameter stands in the values that a response says, where none stands in those of its state.
 use Rattle.std.proofs.Common.{◌≡◌, ℕ, suc, ◌+◌, Bool, true, false, List, [], ◌∷◌, Option, Some, None, slice_get, if◌then◌else◌, arith, refl, sym, ap, subst, ◌∙◌}
-use Rattle.candidate_ir.specs.declared.ir.heads.Head.{Head}
-use Rattle.candidate_ir.specs.declared.ir.heads.Head.TheVariants as H
-use Rattle.candidate_ir.specs.declared.ir.kinds.RegionKind.TheVariants as R
-use Rattle.candidate_ir.specs.Syntax.Trees.{Forest, none, tree, Tree, holds, is_param}
-use Rattle.candidate_ir.specs.Instantiation.Folding.{leaf}
-use Rattle.candidate_ir.specs.Unification.Substitutions.{alone}
-use Rattle.candidate_ir.proofs.Instantiation.Folding.{begin}
+use Rattle.ir_trees.specs.declared.ir.heads.Head.{Head}
+use Rattle.ir_trees.specs.declared.ir.heads.Head.TheVariants as H
+use Rattle.ir_trees.specs.declared.ir.kinds.RegionKind.TheVariants as R
+use Rattle.ir_trees.specs.Syntax.Trees.{Forest, none, tree, Tree, holds, is_param}
+use Rattle.ir_trees.specs.Instantiation.Folding.{leaf}
+use Rattle.ir_trees.specs.Unification.Substitutions.{alone}
+use Rattle.ir_trees.proofs.Instantiation.Folding.{begin}
 use Rattle.candidate_eval.specs.declared.eval.variable.VariableKind.{VariableKind}
 use Rattle.candidate_eval.specs.declared.eval.variable.VariableKind.TheVariants.{Term, Region}
 use Rattle.candidate_eval.specs.Judges.States.{State, VariableInfo, variable, valued, has_kind, same_kind}

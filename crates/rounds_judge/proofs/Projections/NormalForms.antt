@@ -1,12 +1,12 @@
 -- A normal form by tables that say what projections are is equal to what was normalised, unless it is a fresh variable.
 use Rattle.std.proofs.Common.{◌≡◌, Bool, true, false, Option, Some, None, inl, refl, subst}
 use Rattle.std.specs.Prelude.{◌&&◌, if◌then◌else◌}
-use Rattle.candidate_ir.specs.declared.ir.heads.Head.{Head}
-use Rattle.candidate_ir.specs.declared.ir.heads.Head.TheVariants as H
-use Rattle.candidate_ir.specs.declared.ir.kinds.AliasKind.TheVariants as A
-use Rattle.candidate_ir.specs.declared.ir.kinds.AssocId.{AssocId}
-use Rattle.candidate_ir.specs.Syntax.Trees.{Forest, Tree, is_alias, is_type, none, tree}
-use Rattle.candidate_ir.specs.Unification.Substitutions.{alone}
+use Rattle.ir_trees.specs.declared.ir.heads.Head.{Head}
+use Rattle.ir_trees.specs.declared.ir.heads.Head.TheVariants as H
+use Rattle.ir_trees.specs.declared.ir.kinds.AliasKind.TheVariants as A
+use Rattle.ir_trees.specs.declared.ir.kinds.AssocId.{AssocId}
+use Rattle.ir_trees.specs.Syntax.Trees.{Forest, Tree, is_alias, is_type, none, tree}
+use Rattle.ir_trees.specs.Unification.Substitutions.{alone}
 use Rattle.candidate_eval.specs.Judges.Lawful.{IsNormalForm}
 use Rattle.candidate_eval.specs.Judges.Soundness.{AreTreesOf, Follows, IsSound, Live, ValuesFit, universes}
 use Rattle.candidate_eval.specs.Judges.States.{Env, State, resolved, resolved_tree}

@@ -1,13 +1,13 @@
 -- The laws on normal forms by the tables.
 use Rattle.std.proofs.Common.{◌≡◌, ℕ, Bool, true, false, ◌&&◌, List, [], ◌∷◌, ◌++◌, map, Option, Some, None, refl, sym, ap, subst, ◌∙◌, if◌then◌else◌}
-use Rattle.candidate_ir.specs.declared.decl.limits.Limits.{Limits}
-use Rattle.candidate_ir.specs.declared.ir.heads.Head.{Head}
-use Rattle.candidate_ir.specs.declared.ir.heads.Head.TheVariants as H
-use Rattle.candidate_ir.specs.declared.ir.kinds.AliasKind.TheVariants as A
-use Rattle.candidate_ir.specs.declared.ir.kinds.AssocId.{AssocId}
-use Rattle.candidate_ir.specs.Declarations.Worlds.{World}
-use Rattle.candidate_ir.specs.Syntax.Trees.{Forest, none, tree, Tree, holds, is_alias, is_type}
-use Rattle.candidate_ir.specs.Unification.Substitutions.{alone}
+use Rattle.ir_trees.specs.declared.decl.limits.Limits.{Limits}
+use Rattle.ir_trees.specs.declared.ir.heads.Head.{Head}
+use Rattle.ir_trees.specs.declared.ir.heads.Head.TheVariants as H
+use Rattle.ir_trees.specs.declared.ir.kinds.AliasKind.TheVariants as A
+use Rattle.ir_trees.specs.declared.ir.kinds.AssocId.{AssocId}
+use Rattle.ir_trees.specs.Declarations.Worlds.{World}
+use Rattle.ir_trees.specs.Syntax.Trees.{Forest, none, tree, Tree, holds, is_alias, is_type}
+use Rattle.ir_trees.specs.Unification.Substitutions.{alone}
 use Rattle.candidate_eval.specs.declared.eval.variable.CanonicalVar.{CanonicalVar}
 use Rattle.candidate_eval.specs.Derivations.ImplRules.{TraitGoal}
 use Rattle.candidate_eval.specs.Judges.Lawful.{HasNoParameter, IsNormalForm, NormalFormLaws}

@@ -1,10 +1,10 @@
 -- What the tables say that a projection is, is equal to it at every state that follows.
 use Rattle.std.proofs.Common.{◌≡◌, Some, inl, inr, refl, ap, subst, ◌∙◌}
-use Rattle.candidate_ir.specs.declared.ir.heads.Head.TheVariants as H
-use Rattle.candidate_ir.specs.declared.ir.kinds.AliasKind.TheVariants as A
-use Rattle.candidate_ir.specs.declared.ir.kinds.AssocId.{AssocId}
-use Rattle.candidate_ir.specs.Syntax.Trees.{Forest, none, tree, Tree, join}
-use Rattle.candidate_ir.specs.Unification.Substitutions.{alone}
+use Rattle.ir_trees.specs.declared.ir.heads.Head.TheVariants as H
+use Rattle.ir_trees.specs.declared.ir.kinds.AliasKind.TheVariants as A
+use Rattle.ir_trees.specs.declared.ir.kinds.AssocId.{AssocId}
+use Rattle.ir_trees.specs.Syntax.Trees.{Forest, none, tree, Tree, join}
+use Rattle.ir_trees.specs.Unification.Substitutions.{alone}
 use Rattle.candidate_eval.specs.Judges.Instances.{Instance, instance}
 use Rattle.candidate_eval.specs.Judges.Soundness.{AreTreesOf, IsLater, IsSound, Live, ValuesFit, Within, is_strange, universes}
 use Rattle.candidate_eval.specs.Judges.States.{Env, State, resolved, resolved_tree, valued}

@@ -4,14 +4,14 @@ use Rattle.std.proofs.Common.{◌≡◌, ℕ, zero, suc, true, false, Option, So
 use Rattle.std.specs.Option.{unwrap_or}
 use Rattle.std.specs.List.{All}
 use Rattle.std.proofs.lemmas.List.Elements.{All-cons, All-head, All-tail, All-nil}
-use Rattle.candidate_ir.specs.declared.ir.heads.Head.{Head}
-use Rattle.candidate_ir.specs.declared.ir.heads.Head.TheVariants as H
-use Rattle.candidate_ir.specs.declared.ir.heads.Variable.{Variable}
-use Rattle.candidate_ir.specs.declared.ir.kinds.RegionKind.{RegionKind}
-use Rattle.candidate_ir.specs.declared.ir.kinds.RegionKind.TheVariants as R
-use Rattle.candidate_ir.specs.Syntax.Trees.{Forest, none, tree, Tree, erase, holds}
-use Rattle.candidate_ir.specs.Instantiation.Folding.{leaf}
-use Rattle.candidate_ir.specs.Unification.Substitutions.{alone}
+use Rattle.ir_trees.specs.declared.ir.heads.Head.{Head}
+use Rattle.ir_trees.specs.declared.ir.heads.Head.TheVariants as H
+use Rattle.ir_trees.specs.declared.ir.heads.Variable.{Variable}
+use Rattle.ir_trees.specs.declared.ir.kinds.RegionKind.{RegionKind}
+use Rattle.ir_trees.specs.declared.ir.kinds.RegionKind.TheVariants as R
+use Rattle.ir_trees.specs.Syntax.Trees.{Forest, none, tree, Tree, erase, holds}
+use Rattle.ir_trees.specs.Instantiation.Folding.{leaf}
+use Rattle.ir_trees.specs.Unification.Substitutions.{alone}
 use Rattle.candidate_eval.specs.declared.eval.variable.VariableKind.TheVariants.{Region}
 use Rattle.candidate_eval.specs.Judges.States.{State, value_as, value_at, resolved}
 use Rattle.candidate_eval.specs.Judges.Soundness.{Live, ValuesFit, AreLeaves, IsLater, is_leaf, is_region, is_strange}

@@ -1,7 +1,7 @@
 -- The laws of an evaluator on what an equation leaves, of equations that are solved by looks.
 use Rattle.std.proofs.Common.{◌≡◌, ◌≤◌, List, [], ◌∷◌, false, Option, Some, None, length, ap, subst, arith}
 use Rattle.std.proofs.lemmas.List.Elements.{All-nil}
-use Rattle.candidate_ir.specs.Syntax.Trees.{Forest, holds, is_param}
+use Rattle.ir_trees.specs.Syntax.Trees.{Forest, holds, is_param}
 use Rattle.candidate_eval.specs.Judges.States.{State, Pending}
 use Rattle.candidate_eval.specs.Judges.Soundness.{Live, IsSound, ValuesFit, AreTreesOf, GoalIsOf}
 use Rattle.candidate_eval.specs.Judges.Lawful.{GoalHasNoParameter, HasNoParameter, LeavesGoals, RegionsHaveNoParameter}

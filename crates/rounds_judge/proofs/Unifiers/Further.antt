@@ -2,16 +2,16 @@
 use Rattle.std.proofs.Common.{◌≡◌, ◌≤◌, ◌<◌, ℕ, zero, suc, ◌+◌, Bool, true, false, Option, Some, None, List, [], ◌∷◌, ◌++◌, slice_get, refl, sym, ap, subst, ◌∙◌, arith, nat_lt, if◌then◌else◌}
 use Rattle.std.specs.Option.{unwrap_or}
 use Rattle.std.proofs.lemmas.Bool.{eq-eqb, ltb-false, le-ltb}
-use Rattle.candidate_ir.specs.declared.ir.heads.Head.{Head}
-use Rattle.candidate_ir.specs.declared.ir.heads.Head.TheVariants as H
-use Rattle.candidate_ir.specs.declared.ir.heads.ConstHead.TheVariants as C
-use Rattle.candidate_ir.specs.declared.ir.heads.Variable.{Variable}
-use Rattle.candidate_ir.specs.declared.ir.heads.VariableSort.{VariableSort}
-use Rattle.candidate_ir.specs.Syntax.Trees.{Forest, none, tree, Tree, erase, erased_head, holds, binders_of}
-use Rattle.candidate_ir.specs.Syntax.Binders.{is_beyond, escapes}
-use Rattle.candidate_ir.specs.Unification.Substitutions.{Substitution, Universes, IsAllowed, IsAllowedBinding, lookup, replaced, apply, alone, same_variable, fits_sort, is_placeholder_above}
-use Rattle.candidate_ir.proofs.Instantiation.Folding.{begin}
-use Rattle.candidate_ir.proofs.Unification.Instances.{lookup_fits}
+use Rattle.ir_trees.specs.declared.ir.heads.Head.{Head}
+use Rattle.ir_trees.specs.declared.ir.heads.Head.TheVariants as H
+use Rattle.ir_trees.specs.declared.ir.heads.ConstHead.TheVariants as C
+use Rattle.ir_trees.specs.declared.ir.heads.Variable.{Variable}
+use Rattle.ir_trees.specs.declared.ir.heads.VariableSort.{VariableSort}
+use Rattle.ir_trees.specs.Syntax.Trees.{Forest, none, tree, Tree, erase, erased_head, holds, binders_of}
+use Rattle.ir_trees.specs.Syntax.Binders.{is_beyond, escapes}
+use Rattle.ir_trees.specs.Unification.Substitutions.{Substitution, Universes, IsAllowed, IsAllowedBinding, lookup, replaced, apply, alone, same_variable, fits_sort, is_placeholder_above}
+use Rattle.ir_trees.proofs.Instantiation.Folding.{begin}
+use Rattle.ir_trees.proofs.Unification.Instances.{lookup_fits}
 use Rattle.candidate_eval.specs.declared.eval.variable.VariableKind.{VariableKind}
 use Rattle.candidate_eval.specs.declared.eval.variable.VariableKind.TheVariants.{Term, Region}
 use Rattle.candidate_eval.specs.Judges.States.{State, VariableInfo}

@@ -1,12 +1,12 @@
 -- Trees with values put in, and what erasing makes of them.
 use Rattle.std.proofs.Common.{◌≡◌, ℕ, ◌+◌, Bool, true, false, Option, Some, None, refl, sym, ap, ◌∙◌}
 use Rattle.std.specs.Option.{unwrap_or}
-use Rattle.candidate_ir.specs.declared.ir.heads.Head.{Head}
-use Rattle.candidate_ir.specs.declared.ir.heads.Head.TheVariants as H
-use Rattle.candidate_ir.specs.Syntax.Trees.{Forest, none, tree, Tree, erase, erased_head, holds, binders_of}
-use Rattle.candidate_ir.specs.Instantiation.Folding.{Answers, fold, leaf}
-use Rattle.candidate_ir.specs.Unification.Substitutions.{Substitution, lookup, apply, alone}
-use Rattle.candidate_ir.proofs.Instantiation.Folding.{begin}
+use Rattle.ir_trees.specs.declared.ir.heads.Head.{Head}
+use Rattle.ir_trees.specs.declared.ir.heads.Head.TheVariants as H
+use Rattle.ir_trees.specs.Syntax.Trees.{Forest, none, tree, Tree, erase, erased_head, holds, binders_of}
+use Rattle.ir_trees.specs.Instantiation.Folding.{Answers, fold, leaf}
+use Rattle.ir_trees.specs.Unification.Substitutions.{Substitution, lookup, apply, alone}
+use Rattle.ir_trees.proofs.Instantiation.Folding.{begin}
 use Rattle.candidate_eval.specs.Judges.States.{Values, valued}
 use Rattle.candidate_eval.specs.Judges.Soundness.{AreLeaves, is_leaf}
 use Rattle.candidate_eval.proofs.Marks.Holds.{holds_parts}

@@ -1,9 +1,9 @@
 -- Equality of rows of trees modulo pairs of trees, as the listed ones. Regions count for nothing.
 use Rattle.std.specs.Prelude.{◌≡◌, true}
 use Rattle.std.specs.List.{Contains}
-use Rattle.candidate_ir.specs.declared.ir.heads.Head.{Head}
-use Rattle.candidate_ir.specs.Syntax.Trees.{Forest, tree, Tree}
-use Rattle.candidate_ir.specs.Unification.Substitutions.{alone}
+use Rattle.ir_trees.specs.declared.ir.heads.Head.{Head}
+use Rattle.ir_trees.specs.Syntax.Trees.{Forest, tree, Tree}
+use Rattle.ir_trees.specs.Unification.Substitutions.{alone}
 use Rattle.candidate_eval.specs.Judges.Soundness.{is_region}
 use Rattle.rounds_judge.specs.Aliases.Listed.{Listing}
 

@@ -1,9 +1,9 @@
 -- Aliases that are listed with the types that they are normalised to.
 use Rattle.std.specs.Prelude.{Bool, Option, Some, None, List, [], ◌∷◌, if◌then◌else◌}
 use Rattle.std.specs.Option.{unwrap_or}
-use Rattle.candidate_ir.specs.Syntax.Trees.{Tree, is_alias}
-use Rattle.candidate_ir.specs.Instantiation.Folding.{fold_tree}
-use Rattle.candidate_ir.specs.Hierarchy.Elaboration.{same_tree}
+use Rattle.ir_trees.specs.Syntax.Trees.{Tree, is_alias}
+use Rattle.ir_trees.specs.Instantiation.Folding.{fold_tree}
+use Rattle.ir_trees.specs.Hierarchy.Elaboration.{same_tree}
 use Rattle.candidate_eval.specs.Judges.States.{State, resolved_tree}
 use Rattle.candidate_eval.specs.Interface.Evaluators.{resolved_root}
 

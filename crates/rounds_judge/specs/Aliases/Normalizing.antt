@@ -1,8 +1,8 @@
 -- Normal forms.
 use Rattle.std.specs.Prelude.{◌&&◌, Option, Some, length, if◌then◌else◌}
 use Rattle.std.specs.Option.{unwrap_or}
-use Rattle.candidate_ir.specs.declared.ir.heads.VariableSort.TheVariants.{General}
-use Rattle.candidate_ir.specs.Syntax.Trees.{Tree, is_alias, is_type}
+use Rattle.ir_trees.specs.declared.ir.heads.VariableSort.TheVariants.{General}
+use Rattle.ir_trees.specs.Syntax.Trees.{Tree, is_alias, is_type}
 use Rattle.candidate_eval.specs.declared.eval.variable.VariableKind.TheVariants.{Term}
 use Rattle.candidate_eval.specs.Judges.States.{Env, State, resolved_tree, variable, with_fresh}
 use Rattle.rounds_judge.specs.Aliases.Listed.{Listing, listed}

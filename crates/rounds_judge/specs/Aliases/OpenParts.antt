@@ -1,17 +1,17 @@
 -- Where aliases are open: the parts of trees that may be any type or constant, trees with others in their places, and the goals that both are
 -- one.
 use Rattle.std.specs.Prelude.{Bool, false, not, ◌&&◌, ◌||◌, List, [], ◌∷◌, ◌++◌, map, if◌then◌else◌}
-use Rattle.candidate_ir.specs.declared.ir.heads.Head.{Head}
-use Rattle.candidate_ir.specs.declared.ir.heads.Head.TheVariants as H
-use Rattle.candidate_ir.specs.declared.ir.heads.PartHead.TheVariants as P
-use Rattle.candidate_ir.specs.declared.ir.heads.ClauseHead.TheVariants as Cl
-use Rattle.candidate_ir.specs.declared.ir.kinds.GoalSource.TheVariants.{Misc}
-use Rattle.candidate_ir.specs.Hierarchy.Supers.{after_first}
-use Rattle.candidate_ir.specs.Hierarchy.Elaboration.{same_tree}
-use Rattle.candidate_ir.specs.Instantiation.Folding.{fold}
-use Rattle.candidate_ir.specs.Instantiation.Folds.{node}
-use Rattle.candidate_ir.specs.Syntax.Binders.{escapes}
-use Rattle.candidate_ir.specs.Syntax.Trees.{Kind, ConstantKind, Forest, none, tree, Tree, is_alias, kind_of}
+use Rattle.ir_trees.specs.declared.ir.heads.Head.{Head}
+use Rattle.ir_trees.specs.declared.ir.heads.Head.TheVariants as H
+use Rattle.ir_trees.specs.declared.ir.heads.PartHead.TheVariants as P
+use Rattle.ir_trees.specs.declared.ir.heads.ClauseHead.TheVariants as Cl
+use Rattle.ir_trees.specs.declared.ir.kinds.GoalSource.TheVariants.{Misc}
+use Rattle.ir_trees.specs.Hierarchy.Supers.{after_first}
+use Rattle.ir_trees.specs.Hierarchy.Elaboration.{same_tree}
+use Rattle.ir_trees.specs.Instantiation.Folding.{fold}
+use Rattle.ir_trees.specs.Instantiation.Folds.{node}
+use Rattle.ir_trees.specs.Syntax.Binders.{escapes}
+use Rattle.ir_trees.specs.Syntax.Trees.{Kind, ConstantKind, Forest, none, tree, Tree, is_alias, kind_of}
 use Rattle.candidate_eval.specs.Judges.Lawful.{is_type_or_constant}
 use Rattle.candidate_eval.specs.Judges.States.{Env, Pending}
 use Rattle.rounds_judge.specs.Aliases.Listed.{listed_in}

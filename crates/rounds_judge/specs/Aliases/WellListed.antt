@@ -1,8 +1,8 @@
 -- Pairs that may be listed.
 use Rattle.std.specs.Prelude.{Bool, ◌&&◌, not, [], ◌∷◌, List, if◌then◌else◌}
-use Rattle.candidate_ir.specs.Syntax.Binders.{escapes}
-use Rattle.candidate_ir.specs.Unification.Substitutions.{alone}
-use Rattle.candidate_ir.specs.Syntax.Trees.{Tree, holds, is_alias, is_param, is_type}
+use Rattle.ir_trees.specs.Syntax.Binders.{escapes}
+use Rattle.ir_trees.specs.Unification.Substitutions.{alone}
+use Rattle.ir_trees.specs.Syntax.Trees.{Tree, holds, is_alias, is_param, is_type}
 use Rattle.rounds_judge.specs.Aliases.Listed.{Listing}
 use Rattle.rounds_judge.specs.Equations.Standing.{is_made}
 

@@ -1,7 +1,7 @@
 -- Where two equal trees that meet may change the state, or leave other trees than those below them.
 use Rattle.std.specs.Prelude.{◌≡◌, Bool, false, ◌&&◌, ◌||◌}
-use Rattle.candidate_ir.specs.declared.ir.heads.Head.{Head}
-use Rattle.candidate_ir.specs.Syntax.Trees.{Forest, none, tree, is_alias}
+use Rattle.ir_trees.specs.declared.ir.heads.Head.{Head}
+use Rattle.ir_trees.specs.Syntax.Trees.{Forest, none, tree, is_alias}
 use Rattle.candidate_eval.specs.Interface.Evaluators.{root_value}
 use Rattle.candidate_eval.specs.Judges.Soundness.{has_value, is_region}
 use Rattle.candidate_eval.specs.Judges.States.{State, is_some, resolved}

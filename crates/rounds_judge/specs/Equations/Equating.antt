@@ -1,12 +1,12 @@
 -- How two rows of trees are made equal: what is first on both sides is looked at, and then what is left.
 use Rattle.std.specs.Prelude.{ℕ, zero, suc, ◌+◌, ◌*◌, ◌&&◌, max, Option, Some, None, List, [], ◌∷◌, ◌++◌, if◌then◌else◌}
-use Rattle.candidate_ir.specs.declared.ir.heads.Head.{Head}
-use Rattle.candidate_ir.specs.declared.ir.heads.Head.TheVariants as H
-use Rattle.candidate_ir.specs.declared.ir.heads.Variable.{Variable}
-use Rattle.candidate_ir.specs.declared.ir.heads.PartHead.TheVariants as P
-use Rattle.candidate_ir.specs.declared.ir.heads.ClauseHead.TheVariants as Cl
-use Rattle.candidate_ir.specs.Syntax.Trees.{Forest, none, tree, Tree, is_alias}
-use Rattle.candidate_ir.specs.Unification.Unify.{same_head}
+use Rattle.ir_trees.specs.declared.ir.heads.Head.{Head}
+use Rattle.ir_trees.specs.declared.ir.heads.Head.TheVariants as H
+use Rattle.ir_trees.specs.declared.ir.heads.Variable.{Variable}
+use Rattle.ir_trees.specs.declared.ir.heads.PartHead.TheVariants as P
+use Rattle.ir_trees.specs.declared.ir.heads.ClauseHead.TheVariants as Cl
+use Rattle.ir_trees.specs.Syntax.Trees.{Forest, none, tree, Tree, is_alias}
+use Rattle.ir_trees.specs.Unification.Unify.{same_head}
 use Rattle.candidate_eval.specs.Judges.States.{State, VariableInfo, Pending, resolved, resolved_tree}
 use Rattle.candidate_eval.specs.Judges.Soundness.{is_region}
 use Rattle.rounds_judge.specs.Aliases.Listed.{Listing, normalized_tree, current}

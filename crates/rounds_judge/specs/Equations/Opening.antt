@@ -1,7 +1,7 @@
 -- Equations of sides in which aliases may be open: a fresh variable stands for each open part, and the goals are left that both are one.
 use Rattle.std.specs.Prelude.{Bool, ◌&&◌, ◌||◌, Option, Some, List, [], if◌then◌else◌}
-use Rattle.candidate_ir.specs.Instantiation.Folding.{fold}
-use Rattle.candidate_ir.specs.Syntax.Trees.{Forest, Tree, holds, is_alias}
+use Rattle.ir_trees.specs.Instantiation.Folding.{fold}
+use Rattle.ir_trees.specs.Syntax.Trees.{Forest, Tree, holds, is_alias}
 use Rattle.candidate_eval.specs.Judges.Modes.{is_coherence}
 use Rattle.candidate_eval.specs.Judges.States.{Env, State, Pending, fresh_variables, next, resolved, with_fresh_variables}
 use Rattle.rounds_judge.specs.Aliases.Listed.{Listing, listed}

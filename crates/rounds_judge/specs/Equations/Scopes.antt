@@ -1,11 +1,11 @@
 -- What stands under binders that both sides of an equation have.
 use Rattle.std.specs.Prelude.{ℕ, Bool, true, false, ◌&&◌, ◌==◌, ◌-◌, nat_le, Option, Some, None, List, ◌∷◌, slice_get, if◌then◌else◌}
-use Rattle.candidate_ir.specs.declared.ir.heads.Head.{Head}
-use Rattle.candidate_ir.specs.declared.ir.heads.Head.TheVariants as H
-use Rattle.candidate_ir.specs.declared.ir.kinds.BoundVar.{BoundVar}
-use Rattle.candidate_ir.specs.declared.ir.kinds.RegionKind.TheVariants as R
-use Rattle.candidate_ir.specs.Syntax.Trees.{Forest, none, tree, Tree, binders_of}
-use Rattle.candidate_ir.specs.Instantiation.Folding.{fold_tree, leaf}
+use Rattle.ir_trees.specs.declared.ir.heads.Head.{Head}
+use Rattle.ir_trees.specs.declared.ir.heads.Head.TheVariants as H
+use Rattle.ir_trees.specs.declared.ir.kinds.BoundVar.{BoundVar}
+use Rattle.ir_trees.specs.declared.ir.kinds.RegionKind.TheVariants as R
+use Rattle.ir_trees.specs.Syntax.Trees.{Forest, none, tree, Tree, binders_of}
+use Rattle.ir_trees.specs.Instantiation.Folding.{fold_tree, leaf}
 use Rattle.candidate_eval.specs.Judges.States.{State, with_universe}
 
 -- The binders that were entered, the innermost first: for each the universe of the placeholders that stand for its variables.

@@ -1,16 +1,16 @@
 -- What holds of a state and of the pairs that are left, from one look to the next.
 use Rattle.std.specs.Prelude.{◌≡◌, ◌≤◌, true, false, Some, List, length}
 use Rattle.std.specs.List.{All}
-use Rattle.candidate_ir.specs.declared.ir.heads.Head.{Head}
-use Rattle.candidate_ir.specs.Syntax.Trees.{Tree, holds, is_alias, is_param, is_type, erase}
-use Rattle.candidate_ir.specs.Syntax.Binders.{escapes}
-use Rattle.candidate_ir.specs.Unification.Substitutions.{Substitution, alone, apply}
+use Rattle.ir_trees.specs.declared.ir.heads.Head.{Head}
+use Rattle.ir_trees.specs.Syntax.Trees.{Tree, holds, is_alias, is_param, is_type, erase}
+use Rattle.ir_trees.specs.Syntax.Binders.{escapes}
+use Rattle.ir_trees.specs.Unification.Substitutions.{Substitution, alone, apply}
 use Rattle.candidate_eval.specs.Judges.States.{State, value_at}
 use Rattle.candidate_eval.specs.Judges.Soundness.{Live, IsSound, IsResolved, ValuesFit, AreLeaves, IsSolution, is_strange}
 use Rattle.candidate_eval.specs.Judges.Lawful.{HasNoAlias, HasLeafValues}
 use Rattle.rounds_judge.specs.Aliases.Listed.{Listing}
 use Rattle.rounds_judge.specs.Equations.Equating.{Pair}
-pub use Rattle.candidate_ir.specs.Unification.Substitutions.{is_made}
+pub use Rattle.ir_trees.specs.Unification.Substitutions.{is_made}
 
 -- A tree that means the same at every state: no bound variable escapes from it, it has no variable and no parameter, and its placeholders are of the root.
 pub record IsFixed (t : Tree) : Type 0 where

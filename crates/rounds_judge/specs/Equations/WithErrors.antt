@@ -1,7 +1,7 @@
 -- Equations of sides in which errors stand.
 use Rattle.std.specs.Prelude.{◌≡◌, Some, List}
-use Rattle.candidate_ir.specs.Syntax.Trees.{Forest, erase}
-use Rattle.candidate_ir.specs.Unification.Substitutions.{Substitution}
+use Rattle.ir_trees.specs.Syntax.Trees.{Forest, erase}
+use Rattle.ir_trees.specs.Unification.Substitutions.{Substitution}
 use Rattle.candidate_eval.specs.Judges.Lawful.{AreSides, IsKept, Solves}
 use Rattle.candidate_eval.specs.Judges.Soundness.{IsSound, Live, Within}
 use Rattle.candidate_eval.specs.Judges.States.{Env, Judge, Pending, State, resolved}

@@ -1,13 +1,13 @@
 -- Facts that are vouched for without a table of goals, and what is fresh for a goal under a binder.
 use Rattle.std.specs.Prelude.{◌≡◌, ℕ, ◌<◌, false, List, [], ◌∷◌}
-use Rattle.candidate_ir.specs.declared.ir.heads.Head.{Head}
-use Rattle.candidate_ir.specs.declared.ir.heads.Head.TheVariants as H
-use Rattle.candidate_ir.specs.declared.ir.heads.PartHead.TheVariants as P
-use Rattle.candidate_ir.specs.declared.ir.heads.ClauseHead.TheVariants as Cl
-use Rattle.candidate_ir.specs.Syntax.Trees.{Kind, Forest, Tree, holds}
-use Rattle.candidate_ir.specs.Hierarchy.Supers.{after_first}
-use Rattle.candidate_ir.specs.Instantiation.Opening.{opened}
-use Rattle.candidate_ir.specs.Unification.Substitutions.{Universes}
+use Rattle.ir_trees.specs.declared.ir.heads.Head.{Head}
+use Rattle.ir_trees.specs.declared.ir.heads.Head.TheVariants as H
+use Rattle.ir_trees.specs.declared.ir.heads.PartHead.TheVariants as P
+use Rattle.ir_trees.specs.declared.ir.heads.ClauseHead.TheVariants as Cl
+use Rattle.ir_trees.specs.Syntax.Trees.{Kind, Forest, Tree, holds}
+use Rattle.ir_trees.specs.Hierarchy.Supers.{after_first}
+use Rattle.ir_trees.specs.Instantiation.Opening.{opened}
+use Rattle.ir_trees.specs.Unification.Substitutions.{Universes}
 use Rattle.candidate_eval.specs.Judges.States.{placeholders}
 use Rattle.candidate_eval.specs.Derivations.Characterization.{bound_kinds}
 use Rattle.candidate_eval.specs.Judges.Instances.{is_of_universe}

@@ -1,15 +1,15 @@
 -- Goals of traits as a table of goals knows them: by a key, in which nothing is of one state alone.
 use Rattle.std.specs.Prelude.{ℕ, Bool, true, ◌&&◌, ◌==◌, max, None, List, [], ◌∷◌, map}
 use Rattle.std.specs.Cmp.Lexicographic.{pointwise}
-use Rattle.candidate_ir.specs.contracts.ir.kinds.PredicatePolarityPartialEq.TheImpl as polarity
-use Rattle.candidate_ir.specs.declared.ir.heads.Head.{Head}
-use Rattle.candidate_ir.specs.declared.ir.heads.Head.TheVariants as H
-use Rattle.candidate_ir.specs.declared.ir.heads.ConstHead.TheVariants as C
-use Rattle.candidate_ir.specs.declared.ir.kinds.PredicatePolarity.{PredicatePolarity}
-use Rattle.candidate_ir.specs.declared.ir.kinds.RegionKind.TheVariants as R
-use Rattle.candidate_ir.specs.declared.ir.kinds.TraitId.{TraitId}
-use Rattle.candidate_ir.specs.Hierarchy.Elaboration.{same_forest}
-use Rattle.candidate_ir.specs.Syntax.Trees.{Forest, none, tree, join}
+use Rattle.ir_trees.specs.contracts.ir.kinds.PredicatePolarityPartialEq.TheImpl as polarity
+use Rattle.ir_trees.specs.declared.ir.heads.Head.{Head}
+use Rattle.ir_trees.specs.declared.ir.heads.Head.TheVariants as H
+use Rattle.ir_trees.specs.declared.ir.heads.ConstHead.TheVariants as C
+use Rattle.ir_trees.specs.declared.ir.kinds.PredicatePolarity.{PredicatePolarity}
+use Rattle.ir_trees.specs.declared.ir.kinds.RegionKind.TheVariants as R
+use Rattle.ir_trees.specs.declared.ir.kinds.TraitId.{TraitId}
+use Rattle.ir_trees.specs.Hierarchy.Elaboration.{same_forest}
+use Rattle.ir_trees.specs.Syntax.Trees.{Forest, none, tree, join}
 use Rattle.candidate_eval.specs.contracts.eval.variable.CanonicalVarPartialEq.TheImpl as variable
 use Rattle.candidate_eval.specs.declared.eval.mode.TypingMode.{TypingMode}
 use Rattle.candidate_eval.specs.declared.eval.variable.CanonicalVar.{CanonicalVar}

@@ -1,8 +1,8 @@
 use Rattle.std.proofs.Common.{refl}
-use Rattle.candidate_ir.specs.Syntax.Trees.{TypeKind}
-use Rattle.candidate_ir.proofs.Growth.Made.{IsTy-grows}
+use Rattle.ir_trees.specs.Syntax.Trees.{TypeKind}
+use Rattle.ir_trees.proofs.Growth.Made.{IsTy-grows}
 use Rattle.assembly_notation.proofs.Lacking.{lacks-grows, made-lacks, array-lacks}
-use Rattle.candidate_ir.proofs.Growth.Kept.{grows-trans}
+use Rattle.ir_trees.proofs.Growth.Kept.{grows-trans}
 use Rattle.assembly_notation.proofs.building.array.Goals as goal
 
 pub ty-requires : goal.ty-requires

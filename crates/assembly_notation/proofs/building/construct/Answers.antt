@@ -1,11 +1,11 @@
 use Rattle.std.proofs.Common.{◌∙◌, ap}
-use Rattle.candidate_ir.specs.declared.ir.kinds.AliasTy.{AliasTy}
-use Rattle.candidate_ir.specs.declared.ir.kinds.AliasKind.TheVariants as AliasKind
-use Rattle.candidate_ir.specs.Syntax.Trees.{holds, tree_holds, is_param}
-use Rattle.candidate_ir.specs.Syntax.Nodes.{tree_at}
+use Rattle.ir_trees.specs.declared.ir.kinds.AliasTy.{AliasTy}
+use Rattle.ir_trees.specs.declared.ir.kinds.AliasKind.TheVariants as AliasKind
+use Rattle.ir_trees.specs.Syntax.Trees.{holds, tree_holds, is_param}
+use Rattle.ir_trees.specs.Syntax.Nodes.{tree_at}
 use Rattle.assembly_notation.specs.Params.{LacksParam}
 use Rattle.assembly_notation.proofs.Lacking.{made-lacks, same-lacks, args-lacks, tuple-lacks, adt-lacks, alias-lacks}
-use Rattle.candidate_ir.proofs.Growth.Kept.{grows-trans}
+use Rattle.ir_trees.proofs.Growth.Kept.{grows-trans}
 use Rattle.assembly_notation.proofs.building.construct.Goals as goal
 use Rattle.assembly_notation.proofs.building.construct.Goals.{in-Tuple, in-Adt, in-Projection, in-Opaque}
 

@@ -1,11 +1,11 @@
 use Rattle.std.proofs.Common.{List, refl, ◌∙◌, ap}
-use Rattle.candidate_ir.specs.declared.ir.kinds.Binder.{Binder}
-use Rattle.candidate_ir.specs.declared.ir.kinds.ExistentialPredicate.{ExistentialPredicate}
-use Rattle.candidate_ir.specs.Syntax.Words.{bounds_forest}
-use Rattle.candidate_ir.specs.Syntax.Trees.{PredicatesKind, holds, is_param}
-use Rattle.candidate_ir.proofs.Growth.Made.{IsPreds-grows}
+use Rattle.ir_trees.specs.declared.ir.kinds.Binder.{Binder}
+use Rattle.ir_trees.specs.declared.ir.kinds.ExistentialPredicate.{ExistentialPredicate}
+use Rattle.ir_trees.specs.Syntax.Words.{bounds_forest}
+use Rattle.ir_trees.specs.Syntax.Trees.{PredicatesKind, holds, is_param}
+use Rattle.ir_trees.proofs.Growth.Made.{IsPreds-grows}
 use Rattle.assembly_notation.proofs.Lacking.{lacks-grows, made-lacks, region-lacks, preds-lacks, dyn-lacks}
-use Rattle.candidate_ir.proofs.Growth.Kept.{grows-trans}
+use Rattle.ir_trees.proofs.Growth.Kept.{grows-trans}
 use Rattle.assembly_notation.proofs.building.dyn_type.Goals as goal
 
 pub ty-requires : goal.ty-requires

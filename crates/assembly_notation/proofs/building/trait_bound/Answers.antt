@@ -1,8 +1,8 @@
 use Rattle.std.proofs.Common.{refl, ◌∙◌, ap}
-use Rattle.candidate_ir.specs.Syntax.Trees.{ArgumentsKind, holds, is_param}
-use Rattle.candidate_ir.proofs.Growth.Made.{IsArgs-grows}
+use Rattle.ir_trees.specs.Syntax.Trees.{ArgumentsKind, holds, is_param}
+use Rattle.ir_trees.proofs.Growth.Made.{IsArgs-grows}
 use Rattle.assembly_notation.proofs.Lacking.{lacks-grows, args-lacks, trait-lacks}
-use Rattle.candidate_ir.proofs.Growth.Kept.{grows-trans}
+use Rattle.ir_trees.proofs.Growth.Kept.{grows-trans}
 use Rattle.assembly_notation.proofs.building.trait_bound.Goals as goal
 
 pub returns-clause-fits : goal.returns-clause-fits

@@ -1,6 +1,6 @@
 use Rattle.std.proofs.Common.{◌≡◌, ◌+◌, ◌*◌}
-use Rattle.candidate_ir.specs.Syntax.Nodes.{tree_at}
-use Rattle.candidate_ir.specs.Syntax.Trees.{skip}
+use Rattle.ir_trees.specs.Syntax.Nodes.{tree_at}
+use Rattle.ir_trees.specs.Syntax.Trees.{skip}
 use Rattle.assembly_notation.specs.Spelling.{AreCounted, words}
 use Rattle.assembly_notation.proofs.counting.+counting.Given as goal
 

@@ -1,6 +1,6 @@
 use Rattle.std.proofs.Common.{refl}
-use Rattle.candidate_ir.specs.Syntax.Trees.{TypeKind}
-use Rattle.candidate_ir.proofs.Syntax.Lists.{below_kind}
+use Rattle.ir_trees.specs.Syntax.Trees.{TypeKind}
+use Rattle.ir_trees.proofs.Syntax.Lists.{below_kind}
 use Rattle.assembly_notation.proofs.counting.has_few_words.Goals as goal
 
 pub add_tree-requires-clause-number : goal.add_tree-requires-clause-number

@@ -1,10 +1,10 @@
 use Rattle.std.proofs.Common.{refl, ◌∙◌, ap}
-use Rattle.candidate_ir.specs.declared.ir.node.Node.{Node}
-use Rattle.candidate_ir.specs.declared.ir.kinds.TyKind.{TyKind}
-use Rattle.candidate_ir.specs.Syntax.Nodes.{node_tree}
-use Rattle.candidate_ir.specs.Syntax.Words.{kind_tree}
-use Rattle.candidate_ir.proofs.Traversal.Asking.{asked-node}
-use Rattle.candidate_ir.proofs.Growth.Sorts.{ty_is_type}
+use Rattle.ir_trees.specs.declared.ir.node.Node.{Node}
+use Rattle.ir_trees.specs.declared.ir.kinds.TyKind.{TyKind}
+use Rattle.ir_trees.specs.Syntax.Nodes.{node_tree}
+use Rattle.ir_trees.specs.Syntax.Words.{kind_tree}
+use Rattle.ir_trees.proofs.Traversal.Asking.{asked-node}
+use Rattle.ir_trees.proofs.Growth.Sorts.{ty_is_type}
 use Rattle.assembly_notation.proofs.first.first_type.Goals as goal
 
 pub returns-in-Ty : goal.returns-in-Ty

@@ -2,7 +2,7 @@ use Rattle.std.proofs.Common.{◌≡◌, ℕ, List, [], ◌∷◌, Bool, true, f
 use Rattle.std.specs.Borrow.{Bor}
 use Rattle.std.specs.Prelude.{Option, Some, IfSome, nat_eq, ◌&&◌, if◌then◌else◌}
 use Rattle.std.specs.Cmp.Lexicographic.{pointwise}
-use Rattle.candidate_ir.specs.Syntax.Kinds.{ty_children}
+use Rattle.ir_trees.specs.Syntax.Kinds.{ty_children}
 use Rattle.assembly_notation.specs.declared.notation.Head.{Head}
 use Rattle.assembly_notation.specs.declared.notation.Head.TheVariants.{Leaf}
 use Rattle.assembly_notation.specs.Notation.{IsChildless}

@@ -1,9 +1,9 @@
 use Rattle.std.proofs.Common.{◌≡◌, false, refl, rules, sym, ◌∙◌, ap, subst}
-use Rattle.candidate_ir.specs.declared.ir.kinds.TyKind.TheVariants as TK
-use Rattle.candidate_ir.specs.Declarations.Context.{world}
-use Rattle.candidate_ir.specs.Declarations.References.{ArgumentsFit, Takes}
-use Rattle.candidate_ir.specs.Syntax.Trees.{is_param, tree_holds}
-use Rattle.candidate_ir.specs.Syntax.Words.{IsArgs, kind_tree}
+use Rattle.ir_trees.specs.declared.ir.kinds.TyKind.TheVariants as TK
+use Rattle.ir_trees.specs.Declarations.Context.{world}
+use Rattle.ir_trees.specs.Declarations.References.{ArgumentsFit, Takes}
+use Rattle.ir_trees.specs.Syntax.Trees.{is_param, tree_holds}
+use Rattle.ir_trees.specs.Syntax.Words.{IsArgs, kind_tree}
 use Rattle.candidate_assembly.proofs.Aliases.AliasChains.{alias-tree}
 use Rattle.candidate_rounds.specs.Table.Normalizing.{trait_predicate}
 use Rattle.assembly_text.proofs.asking.projection_of.Goals as goal

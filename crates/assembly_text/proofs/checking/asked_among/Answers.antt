@@ -1,7 +1,7 @@
 use Rattle.std.proofs.Common.{◌<◌, ◌≤◌, true, false, length, arith, ap, refl, rules, sym, ◌∙◌}
 use Rattle.std.specs.List.{filter}
 use Rattle.std.proofs.lemmas.List.{take_all}
-use Rattle.candidate_ir.proofs.Unification.FoundImpls.{one-tested}
+use Rattle.ir_context.proofs.Unification.FoundImpls.{one-tested}
 use Rattle.assembly_text.specs.Paired.{is_asked_with}
 use Rattle.assembly_text.proofs.checking.asked_among.Goals.{then-is_asked_with+in_ok-push, else-is_asked_with}
 use Rattle.assembly_text.proofs.checking.asked_among.Goals as goal

@@ -1,6 +1,6 @@
 use Rattle.std.proofs.Common.{◌≡◌, ◌++◌, None, rules}
-use Rattle.candidate_ir.specs.Unification.Impls.{impls_of, relevant_impls}
-use Rattle.candidate_ir.specs.Syntax.Words.{ty_tree}
+use Rattle.ir_trees.specs.Unification.Impls.{impls_of, relevant_impls}
+use Rattle.ir_trees.specs.Syntax.Words.{ty_tree}
 use Rattle.assembly_text.specs.Paired.{listed_of, trait_with_alias}
 use Rattle.assembly_text.proofs.Pairing.{all-of-trait, relevant-and-aliased}
 use Rattle.assembly_text.proofs.checking.may_overlap.Goals as goal

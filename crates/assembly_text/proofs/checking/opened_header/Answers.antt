@@ -1,11 +1,11 @@
 use Rattle.std.proofs.Common.{◌≡◌, ◌∙◌, Some, ap, refl, rules, sym}
-use Rattle.candidate_ir.specs.declared.ir.kinds.TraitRef.{TraitRef}
-use Rattle.candidate_ir.specs.Declarations.Context.{Context}
-use Rattle.candidate_ir.specs.Declarations.Declaring.{impl_at}
-use Rattle.candidate_ir.specs.Instantiation.Folding.{substituted}
-use Rattle.candidate_ir.specs.Syntax.Nodes.{rows}
-use Rattle.candidate_ir.specs.Syntax.Words.{IsArgs, args_forest}
-use Rattle.candidate_ir.proofs.Growth.Kept.{args-kept, grows-trans}
+use Rattle.ir_trees.specs.declared.ir.kinds.TraitRef.{TraitRef}
+use Rattle.ir_trees.specs.Declarations.Context.{Context}
+use Rattle.ir_trees.specs.Declarations.Declaring.{impl_at}
+use Rattle.ir_trees.specs.Instantiation.Folding.{substituted}
+use Rattle.ir_trees.specs.Syntax.Nodes.{rows}
+use Rattle.ir_trees.specs.Syntax.Words.{IsArgs, args_forest}
+use Rattle.ir_trees.proofs.Growth.Kept.{args-kept, grows-trans}
 use Rattle.assembly_text.specs.Paired.{variables_for}
 use Rattle.assembly_text.proofs.checking.opened_header.Goals as goal
 

@@ -1,4 +1,4 @@
-use Rattle.candidate_ir.proofs.Growth.Kept.{grows-trans}
+use Rattle.ir_trees.proofs.Growth.Kept.{grows-trans}
 use Rattle.assembly_notation.proofs.Giving.{given_grows}
 use Rattle.assembly_text.proofs.MayBeGiven.{read-kept}
 use Rattle.assembly_text.proofs.considering.consider.Goals as goal

@@ -1,5 +1,5 @@
 use Rattle.std.proofs.Common.{◌∙◌, sym}
-use Rattle.candidate_ir.proofs.Growth.Kept.{grows-trans}
+use Rattle.ir_trees.proofs.Growth.Kept.{grows-trans}
 use Rattle.assembly_text.proofs.considering.list_here.Goals as goal
 
 pub returns-in_err-may_be_run : goal.returns-in_err-may_be_run

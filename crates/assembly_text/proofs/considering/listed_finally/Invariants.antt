@@ -1,4 +1,4 @@
-use Rattle.candidate_ir.specs.Declarations.Context.{Grows}
+use Rattle.ir_trees.specs.Declarations.Context.{Grows}
 use Rattle.candidate_assembly.specs.Goals.KindShown.{IsGoal, trait_kind}
 use Rattle.assembly_text.proofs.considering.listed_finally.Given as goal
 

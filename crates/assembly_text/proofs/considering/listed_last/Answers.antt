@@ -1,4 +1,4 @@
-use Rattle.candidate_ir.proofs.Growth.Kept.{grows-trans}
+use Rattle.ir_trees.proofs.Growth.Kept.{grows-trans}
 use Rattle.candidate_assembly.proofs.Calls.Keeping.{trait-goal-kept}
 use Rattle.assembly_text.proofs.considering.listed_last.Goals as goal
 

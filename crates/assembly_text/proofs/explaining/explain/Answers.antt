@@ -1,5 +1,5 @@
 use Rattle.std.proofs.Common.{rules, subst, sym}
-use Rattle.candidate_ir.proofs.Growth.Kept.{grows-trans}
+use Rattle.ir_trees.proofs.Growth.Kept.{grows-trans}
 use Rattle.assembly_text.specs.Solving.{IsSolved, IsSolvedBefore}
 use Rattle.assembly_text.proofs.Answered.{on-answer}
 use Rattle.assembly_text.proofs.explaining.explain.Goals as goal

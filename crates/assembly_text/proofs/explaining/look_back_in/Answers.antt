@@ -1,4 +1,4 @@
-use Rattle.candidate_ir.proofs.Growth.Kept.{grows-trans}
+use Rattle.ir_trees.proofs.Growth.Kept.{grows-trans}
 use Rattle.assembly_text.proofs.explaining.look_back_in.Goals as goal
 
 pub returns-in-Some : goal.returns-in-Some

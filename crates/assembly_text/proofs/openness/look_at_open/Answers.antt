@@ -1,7 +1,7 @@
 use Rattle.std.proofs.Common.{rules, subst, sym}
 use Rattle.std.proofs.lemmas.List.Elements.{All-get_or, All-push}
 use Rattle.std.specs.Prelude.{All}
-use Rattle.candidate_ir.proofs.Growth.Kept.{grows-refl, grows-trans}
+use Rattle.ir_trees.proofs.Growth.Kept.{grows-refl, grows-trans}
 use Rattle.assembly_text.specs.Explaining.{IsAsked}
 use Rattle.assembly_text.proofs.Values.{asked-grown}
 use Rattle.assembly_text.proofs.openness.look_at_open.Goals as goal

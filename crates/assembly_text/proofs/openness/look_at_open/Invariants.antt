@@ -1,5 +1,5 @@
 use Rattle.std.specs.Prelude.{All}
-use Rattle.candidate_ir.specs.Declarations.Context.{Grows}
+use Rattle.ir_trees.specs.Declarations.Context.{Grows}
 use Rattle.assembly_text.specs.Explaining.{IsAsked}
 use Rattle.assembly_text.proofs.openness.look_at_open.Given as goal
 

@@ -1,5 +1,5 @@
 use Rattle.std.proofs.Common.{IfOk, sym, subst}
-use Rattle.candidate_ir.specs.Declarations.Context.{Context}
+use Rattle.ir_trees.specs.Declarations.Context.{Context}
 use Rattle.assembly_text.specs.Reasons.{AreReasoned}
 use Rattle.assembly_text.proofs.reasons.ask_reasoned.Goals as goal
 

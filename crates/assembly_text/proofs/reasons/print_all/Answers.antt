@@ -1,7 +1,7 @@
 use Rattle.std.proofs.lemmas.List.Elements.{All-get_or}
-use Rattle.candidate_ir.specs.Syntax.Words.{IsClause}
-use Rattle.candidate_ir.proofs.Growth.Kept.{grows-refl, grows-trans}
-use Rattle.candidate_ir.proofs.Instantiation.Joining.{clause-kept}
+use Rattle.ir_trees.specs.Syntax.Words.{IsClause}
+use Rattle.ir_trees.proofs.Growth.Kept.{grows-refl, grows-trans}
+use Rattle.ir_folds.proofs.Instantiation.Joining.{clause-kept}
 use Rattle.overlaps.specs.declared.reasons.OpenClause.{OpenClause}
 use Rattle.assembly_text.proofs.reasons.print_all.Goals as goal
 

@@ -1,4 +1,4 @@
-use Rattle.candidate_ir.specs.Declarations.Context.{Grows}
+use Rattle.ir_trees.specs.Declarations.Context.{Grows}
 use Rattle.assembly_text.proofs.reasons.print_all.Given as goal
 
 -- the context grows

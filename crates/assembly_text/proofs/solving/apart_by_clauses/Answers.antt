@@ -1,5 +1,5 @@
 use Rattle.std.proofs.Common.{◌≡◌, Bool, true, Result, IfOk, rules, subst, sym}
-use Rattle.candidate_ir.specs.declared.ir.stop.Stop.{Stop}
+use Rattle.ir_trees.specs.declared.ir.stop.Stop.{Stop}
 use Rattle.candidate_rounds.specs.Evaluators.Known.{listing, state}
 use Rattle.rounds_judge.specs.Equations.Opening.{are_open}
 use Rattle.overlaps.specs.Together.{ClausesKeepApart}

@@ -1,6 +1,6 @@
 use Rattle.std.proofs.Common.{Option, Result, IfOk, rules, subst, sym}
 use Rattle.std.specs.Prelude.{IfSome}
-use Rattle.candidate_ir.specs.declared.ir.stop.Stop.{Stop}
+use Rattle.ir_trees.specs.declared.ir.stop.Stop.{Stop}
 use Rattle.candidate_rounds.specs.Evaluators.Known.{table_of}
 use Rattle.overlaps.specs.declared.overlap.WhereClause.{WhereClause}
 use Rattle.overlaps.specs.Negated.{IsKeptApart}

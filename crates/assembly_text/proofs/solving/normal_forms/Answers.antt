@@ -1,7 +1,7 @@
 use Rattle.std.proofs.Common.{◌≡◌, ℕ, suc, ◌+◌, ◌++◌, ◌∷◌, [], arith, take, sym, ap, subst, ◌∙◌}
 use Rattle.std.proofs.Math.Seq.{take-suc}
 use Rattle.std.proofs.lemmas.List.Elements.{All-get_or}
-use Rattle.candidate_ir.specs.declared.ir.kinds.Ty.{Ty}
+use Rattle.ir_trees.specs.declared.ir.kinds.Ty.{Ty}
 use Rattle.candidate_rounds.specs.Evaluators.Known.{IsGiven, listing_of}
 use Rattle.rounds_judge.specs.Aliases.WellListed.{well_listed}
 use Rattle.assembly_notation.specs.Given.{IsNormalForm}

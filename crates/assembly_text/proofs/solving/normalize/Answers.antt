@@ -1,5 +1,5 @@
 use Rattle.std.proofs.Common.{IfOk, rules, sym, subst}
-use Rattle.candidate_ir.specs.Declarations.Context.{Context}
+use Rattle.ir_trees.specs.Declarations.Context.{Context}
 use Rattle.assembly_text.specs.Normalizing.{IsReadProjection, NormalComesUnder}
 use Rattle.assembly_text.specs.Solving.{IsNewFor}
 use Rattle.assembly_text.proofs.Answered.{on-answer}

@@ -1,5 +1,5 @@
 use Rattle.std.proofs.Common.{Result, IfOk, rules, subst, sym}
-use Rattle.candidate_ir.specs.declared.ir.stop.Stop.{Stop}
+use Rattle.ir_trees.specs.declared.ir.stop.Stop.{Stop}
 use Rattle.overlaps.specs.declared.overlap.Overlap.{Overlap}
 use Rattle.candidate_rounds.specs.Evaluators.Known.{table_of}
 use Rattle.overlaps.specs.Asked.{ClausesBeforeWereAsked, ClausesWereAsked, OfClause, WhereMay}

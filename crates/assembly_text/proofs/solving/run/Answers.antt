@@ -1,5 +1,5 @@
 use Rattle.std.proofs.Common.{◌∙◌, sym}
-use Rattle.candidate_ir.proofs.Growth.Kept.{grows-trans}
+use Rattle.ir_trees.proofs.Growth.Kept.{grows-trans}
 use Rattle.assembly_text.specs.Solving.Comes.{not_asked, ran}
 use Rattle.assembly_text.proofs.solving.run.Goals as goal
 

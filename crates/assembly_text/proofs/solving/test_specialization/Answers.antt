@@ -1,5 +1,5 @@
 use Rattle.std.proofs.Common.{Result, IfOk, rules, subst, sym}
-use Rattle.candidate_ir.specs.declared.ir.stop.Stop.{Stop}
+use Rattle.ir_trees.specs.declared.ir.stop.Stop.{Stop}
 use Rattle.overlaps.specs.declared.specializing.Specialization.{Specialization}
 use Rattle.overlaps.specs.Specialized.{IsSpecialization}
 use Rattle.assembly_text.specs.Specializing.{IsTesterFor, test_not_made, test_stopped}

@@ -1,4 +1,4 @@
-use Rattle.candidate_ir.specs.Declarations.Context.{Grows}
+use Rattle.ir_trees.specs.Declarations.Context.{Grows}
 use Rattle.assembly_text.specs.Solving.{AreValues}
 use Rattle.assembly_text.proofs.solving.values.Given as goal
 

@@ -1,6 +1,6 @@
 use Rattle.std.proofs.Common.{rules}
-use Rattle.candidate_ir.specs.Syntax.Words.{IsTy}
-use Rattle.candidate_ir.proofs.Growth.Made.{IsTy-listed}
+use Rattle.ir_trees.specs.Syntax.Words.{IsTy}
+use Rattle.ir_trees.proofs.Growth.Made.{IsTy-listed}
 use Rattle.assembly_text.proofs.telling.print_found.Goals as goal
 
 pub print_found_type-requires : goal.print_found_type-requires

@@ -1,4 +1,4 @@
-use Rattle.candidate_ir.specs.Syntax.Words.{ListFits}
+use Rattle.ir_trees.specs.Syntax.Words.{ListFits}
 use Rattle.assembly_text.proofs.telling.print_found.Given as goal
 
 -- the values are those of a list of the context

@@ -1,5 +1,5 @@
 use Rattle.std.proofs.Common.{ap, refl}
-use Rattle.candidate_ir.specs.Syntax.Words.{args_forest}
+use Rattle.ir_trees.specs.Syntax.Words.{args_forest}
 use Rattle.candidate_eval.specs.Calls.Exits.{local_ty_of}
 use Rattle.candidate_eval.specs.Knowability.Orphan.{view}
 use Rattle.candidate_eval.specs.Calls.Walk.{setting}

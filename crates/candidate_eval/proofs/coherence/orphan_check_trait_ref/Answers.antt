@@ -1,4 +1,4 @@
-use Rattle.candidate_ir.proofs.Kinding.References.{is-reference}
+use Rattle.ir_trees.proofs.Kinding.References.{is-reference}
 use Rattle.candidate_eval.proofs.Knowability.CallLaws.{limit-read, no-foreign-header-said, answer-said, proper-passes-compat-said, remote-said, changed-by-calls}
 use Rattle.candidate_eval.proofs.Knowability.OrphanLaws.{proper_then_compat, remote_law, first_input_law}
 use Rattle.candidate_eval.proofs.Knowability.Safety.{link_safety}

@@ -1,4 +1,4 @@
-use Rattle.candidate_ir.proofs.Kinding.References.{is-reference}
+use Rattle.ir_trees.proofs.Kinding.References.{is-reference}
 use Rattle.candidate_eval.proofs.Knowability.CallLaws.{no-unnamed-header-said, no-covered-header-said, downstream-header-said, changed-by-calls}
 use Rattle.candidate_eval.proofs.coherence.trait_ref_is_knowable.Goals as goal
 

@@ -1,5 +1,5 @@
 use Rattle.std.proofs.Common.{◌≡◌, ◌⊎◌, inl, inr, ℕ, subst}
-use Rattle.candidate_ir.specs.declared.decl.contents.ImplId.{ImplId}
+use Rattle.ir_trees.specs.declared.decl.contents.ImplId.{ImplId}
 use Rattle.candidate_rounds.specs.Evaluators.Known.{Evaluator, table_of}
 use Rattle.overlaps.specs.Asked.{ClausesWereAsked, WhereMay}
 use Rattle.overlaps.specs.Found.{IsOverlap}

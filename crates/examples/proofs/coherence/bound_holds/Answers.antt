@@ -1,4 +1,4 @@
-use Rattle.candidate_ir.proofs.Growth.Made.{IsArgs-grows}
+use Rattle.ir_trees.proofs.Growth.Made.{IsArgs-grows}
 use Rattle.examples.proofs.coherence.bound_holds.Goals as goal
 
 pub holds-requires-clause-args : goal.holds-requires-clause-args

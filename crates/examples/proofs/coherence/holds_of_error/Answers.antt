@@ -1,4 +1,4 @@
-use Rattle.candidate_ir.proofs.Growth.Made.{IsRegion-grows}
+use Rattle.ir_trees.proofs.Growth.Made.{IsRegion-grows}
 use Rattle.examples.proofs.coherence.holds_of_error.Goals as goal
 
 pub reference-requires-clause-region : goal.reference-requires-clause-region

@@ -1,4 +1,4 @@
-use Rattle.candidate_ir.proofs.Growth.Made.{IsArgs-grows}
+use Rattle.ir_trees.proofs.Growth.Made.{IsArgs-grows}
 use Rattle.examples.proofs.declared.clause.Goals as goal
 
 pub mk_clause-requires-clause-fits : goal.mk_clause-requires-clause-fits

@@ -1,6 +1,6 @@
 use Rattle.std.proofs.Common.{rules, refl, sym, ◌∙◌}
-use Rattle.candidate_ir.specs.Declarations.Context.{world}
-use Rattle.candidate_ir.specs.Syntax.Words.{args_forest}
+use Rattle.ir_trees.specs.Declarations.Context.{world}
+use Rattle.ir_trees.specs.Syntax.Words.{args_forest}
 use Rattle.candidate_eval.specs.Knowability.Orphan.{Sees, view, stateless}
 use Rattle.candidate_eval.proofs.Knowability.Simulation.{answer_seen}
 use Rattle.examples.specs.Looks.{referenced, refused_node}

@@ -1,11 +1,11 @@
 use Rattle.std.proofs.Common.{refl}
-use Rattle.candidate_ir.specs.Declarations.Context.{world}
-use Rattle.candidate_ir.specs.Syntax.Words.{KindFits}
-use Rattle.candidate_ir.specs.declared.ir.kinds.Mutability.TheVariants as M
-use Rattle.candidate_ir.specs.declared.ir.kinds.TyKind.{TyKind}
-use Rattle.candidate_ir.specs.declared.ir.kinds.TyKind.TheVariants as K
-use Rattle.candidate_ir.proofs.Kinding.Arity.{plain-takes}
-use Rattle.candidate_ir.proofs.Growth.Kept.{ty-kept}
+use Rattle.ir_trees.specs.Declarations.Context.{world}
+use Rattle.ir_trees.specs.Syntax.Words.{KindFits}
+use Rattle.ir_trees.specs.declared.ir.kinds.Mutability.TheVariants as M
+use Rattle.ir_trees.specs.declared.ir.kinds.TyKind.{TyKind}
+use Rattle.ir_trees.specs.declared.ir.kinds.TyKind.TheVariants as K
+use Rattle.ir_trees.proofs.Kinding.Arity.{plain-takes}
+use Rattle.ir_trees.proofs.Growth.Kept.{ty-kept}
 use Rattle.examples.proofs.Made.{reference-is}
 use Rattle.examples.proofs.normalising.reference_to.Goals as goal
 

@@ -1,6 +1,6 @@
 use Rattle.std.proofs.Common.{arith, slice_index_or, ◌∙◌}
-use Rattle.candidate_ir.proofs.Growth.Kept.{args-kept}
-use Rattle.candidate_ir.proofs.Instantiation.Joining.{clause-kept}
+use Rattle.ir_trees.proofs.Growth.Kept.{args-kept}
+use Rattle.ir_folds.proofs.Instantiation.Joining.{clause-kept}
 use Rattle.candidate_eval.proofs.Dynamic.Objects.{env-kept}
 use Rattle.candidate_eval.proofs.Outcomes.Pairs.{clause_there}
 use Rattle.overlaps.proofs.PureFolder.{all-answered, asked-then, none-answered, one-answered}

@@ -1,23 +1,23 @@
 use Rattle.std.proofs.Common.{◌≡◌, true, false, None, Some, sym, ap, subst, ◌∙◌}
 use Rattle.std.proofs.lemmas.Result.{IfOk-weaker}
-use Rattle.candidate_ir.specs.Declarations.Context.{Context}
-use Rattle.candidate_ir.specs.Instantiation.Folding.{substituted_tree}
-use Rattle.candidate_ir.specs.Syntax.Words.{IsArgs, args_forest, clause_tree, env_forest}
-use Rattle.candidate_ir.proofs.Growth.Kept.{grows-trans}
+use Rattle.ir_trees.specs.Declarations.Context.{Context}
+use Rattle.ir_trees.specs.Instantiation.Folding.{substituted_tree}
+use Rattle.ir_trees.specs.Syntax.Words.{IsArgs, args_forest, clause_tree, env_forest}
+use Rattle.ir_trees.proofs.Growth.Kept.{grows-trans}
 use Rattle.candidate_eval.proofs.Dynamic.Objects.{env-kept}
 use Rattle.candidate_eval.specs.Dynamic.ObjectRequirements.{arguments_of, trait_said}
 use Rattle.candidate_eval.specs.Judges.States.{resolved_tree}
 use Rattle.candidate_rounds.specs.Evaluators.Known.{state}
 use Rattle.overlaps.specs.Answered.{is_outlives}
 use Rattle.overlaps.proofs.PureFolder.{StaysAsAsked, asked-kept, asked-then, clause-answered, clause-assumed}
-use Rattle.candidate_ir.specs.Declarations.References.{ArgumentsFit}
+use Rattle.ir_trees.specs.Declarations.References.{ArgumentsFit}
 use Rattle.overlaps.proofs.Uncertainty.{clause-says-else, clause-unanswered}
 use Rattle.overlaps.proofs.Stopping.{asking-stop, later-kept, later-refl, later-then, passed-on, stop-later, substitute-somehow}
 use Rattle.overlaps.specs.Stopping.{IsOverlapStop}
 use Rattle.candidate_assembly.proofs.Calls.Causes.{asked-somehow, so-err}
 use Rattle.candidate_eval.specs.Interface.Accounts.{resolve}
-use Rattle.candidate_ir.specs.Syntax.Trees.{ClauseKind}
-use Rattle.candidate_ir.specs.Unification.Substitutions.{alone}
+use Rattle.ir_trees.specs.Syntax.Trees.{ClauseKind}
+use Rattle.ir_trees.specs.Unification.Substitutions.{alone}
 use Rattle.overlaps.proofs.answered.is_clause_answered.Goals as goal
 
 pub returns-in_err-clause-clause-stays : goal.returns-in_err-clause-clause-stays

@@ -1,8 +1,8 @@
 use Rattle.std.proofs.Common.{List, Option, ℕ, sym, subst, ◌∙◌}
 use Rattle.std.specs.Prelude.{IfSome}
-use Rattle.candidate_ir.specs.declared.ir.kinds.Clause.{Clause}
-use Rattle.candidate_ir.specs.Instantiation.Owned.{ClausesAreOwned}
-use Rattle.candidate_ir.specs.Syntax.Words.{args_forest, env_forest}
+use Rattle.ir_trees.specs.declared.ir.kinds.Clause.{Clause}
+use Rattle.ir_trees.specs.Instantiation.Owned.{ClausesAreOwned}
+use Rattle.ir_trees.specs.Syntax.Words.{args_forest, env_forest}
 use Rattle.candidate_eval.specs.Judges.States.{Env}
 use Rattle.candidate_rounds.specs.Evaluators.Known.{state, table_of}
 use Rattle.overlaps.specs.Answered.{AllHold}

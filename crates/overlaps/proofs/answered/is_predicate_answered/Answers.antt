@@ -1,6 +1,6 @@
 use Rattle.std.proofs.Common.{◌≡◌, true, false, subst, sym, ◌∙◌}
 use Rattle.std.specs.Option.{option_map}
-use Rattle.candidate_ir.specs.Declarations.Context.{Context}
+use Rattle.ir_trees.specs.Declarations.Context.{Context}
 use Rattle.candidate_rounds.specs.Table.Goals.{verdict_seen}
 use Rattle.candidate_rounds.proofs.Table.Running.{stays-refl}
 use Rattle.overlaps.specs.Answered.{IsPlainYes}

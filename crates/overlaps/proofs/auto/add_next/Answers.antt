@@ -1,7 +1,7 @@
 use Rattle.std.proofs.Common.{List, slice_index_or, subst}
 use Rattle.std.specs.List.{Contains}
-use Rattle.candidate_ir.specs.declared.decl.contents.ImplId.{ImplId}
-use Rattle.candidate_ir.specs.declared.ir.kinds.Clause.{Clause}
+use Rattle.ir_trees.specs.declared.decl.contents.ImplId.{ImplId}
+use Rattle.ir_trees.specs.declared.ir.kinds.Clause.{Clause}
 use Rattle.overlaps.specs.PartTraits.{AddsOnly, IsNext, IsSaid, by_impl, by_super, wheres_at}
 use Rattle.overlaps.proofs.PartTraits.{adds-nothing, adds-then, impl-in}
 use Rattle.overlaps.proofs.auto.add_next.Goals as goal

@@ -1,6 +1,6 @@
 use Rattle.std.proofs.Common.{◌≡◌, Global, Vec, slice_index_or, subst, sym}
 use Rattle.candidate_eval.proofs.Outcomes.Pairs.{clause_there}
-use Rattle.candidate_ir.specs.declared.ir.kinds.TraitId.{TraitId}
+use Rattle.ir_trees.specs.declared.ir.kinds.TraitId.{TraitId}
 use Rattle.overlaps.specs.PartTraits.{AddsOnly, IsSaid}
 use Rattle.overlaps.proofs.PartTraits.{adds-then}
 use Rattle.overlaps.proofs.Refusing.{got-there}

@@ -1,4 +1,4 @@
-use Rattle.candidate_ir.specs.declared.ir.kinds.GenericArg.TheVariants.{Ty}
+use Rattle.ir_trees.specs.declared.ir.kinds.GenericArg.TheVariants.{Ty}
 use Rattle.overlaps.proofs.Listed.{arg-there}
 use Rattle.overlaps.proofs.auto.are_parameters.Goals as goal
 

@@ -1,6 +1,6 @@
 use Rattle.std.proofs.Common.{List, slice_index_or, subst, sym, ◌∙◌}
 use Rattle.std.specs.List.{Contains}
-use Rattle.candidate_ir.specs.declared.decl.contents.ImplId.{ImplId}
+use Rattle.ir_trees.specs.declared.decl.contents.ImplId.{ImplId}
 use Rattle.overlaps.proofs.PartTraits.{impl-in}
 use Rattle.overlaps.proofs.Uncertainty.{of-not}
 use Rattle.overlaps.proofs.auto.is_implemented_by_part.Goals as goal

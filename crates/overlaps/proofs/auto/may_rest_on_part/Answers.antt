@@ -1,6 +1,6 @@
 use Rattle.std.proofs.Common.{List, inl, inr, subst, sym, ◌∙◌}
 use Rattle.std.specs.List.{Contains}
-use Rattle.candidate_ir.specs.declared.ir.kinds.TraitId.{TraitId}
+use Rattle.ir_trees.specs.declared.ir.kinds.TraitId.{TraitId}
 use Rattle.overlaps.proofs.PartTraits.{all-lead, first-alone, trait-in}
 use Rattle.overlaps.proofs.auto.may_rest_on_part.Goals as goal
 use Rattle.overlaps.proofs.auto.may_rest_on_part.Goals.{then-is_unsizing-via-then-is_unsizing, then-is_unsizing-via-else-is_unsizing+then-is_implemented_by_part}

@@ -1,5 +1,5 @@
 use Rattle.std.specs.List.{Contains}
-use Rattle.candidate_ir.specs.declared.ir.kinds.TraitId.{TraitId}
+use Rattle.ir_trees.specs.declared.ir.kinds.TraitId.{TraitId}
 use Rattle.overlaps.specs.PartTraits.{LeadsTo}
 use Rattle.overlaps.proofs.auto.may_rest_on_part.Given as goal
 

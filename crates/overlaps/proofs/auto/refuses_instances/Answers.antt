@@ -1,6 +1,6 @@
 use Rattle.std.proofs.Common.{refl, sym, ◌∙◌}
 use Rattle.std.proofs.lemmas.Bool.{not-false}
-use Rattle.candidate_ir.specs.Syntax.Words.{args_forest}
+use Rattle.ir_trees.specs.Syntax.Words.{args_forest}
 use Rattle.overlaps.proofs.AskedClauses.{type-variable, constant-variable}
 use Rattle.overlaps.proofs.auto.refuses_instances.Goals as goal
 use Rattle.overlaps.proofs.auto.refuses_instances.Goals.{else-not-has-via-then-not-has+else-not-has-2, else-not-has-via-else-not-has}

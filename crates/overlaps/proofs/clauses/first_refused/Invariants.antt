@@ -1,4 +1,4 @@
-use Rattle.candidate_ir.specs.Syntax.Words.{args_forest}
+use Rattle.ir_trees.specs.Syntax.Words.{args_forest}
 use Rattle.candidate_rounds.specs.Evaluators.Known.{state, table_of}
 use Rattle.candidate_rounds.specs.Table.Running.{StaysBesideTable}
 use Rattle.overlaps.specs.Asked.{SoManyStay}

@@ -1,8 +1,8 @@
 use Rattle.std.proofs.Common.{◌≡◌, true, false, IfOk, subst, sym}
 use Rattle.std.proofs.lemmas.Result.{IfOk-weaker}
-use Rattle.candidate_ir.specs.Declarations.Context.{Context}
-use Rattle.candidate_ir.specs.Instantiation.Folding.{substituted_tree}
-use Rattle.candidate_ir.specs.Syntax.Words.{args_forest, clause_tree}
+use Rattle.ir_trees.specs.Declarations.Context.{Context}
+use Rattle.ir_trees.specs.Instantiation.Folding.{substituted_tree}
+use Rattle.ir_trees.specs.Syntax.Words.{args_forest, clause_tree}
 use Rattle.candidate_rounds.specs.Table.Running.{StaysBesideTable}
 use Rattle.candidate_rounds.proofs.Table.Running.{stays-refl}
 use Rattle.candidate_eval.specs.Judges.States.{resolved_tree}

@@ -1,12 +1,12 @@
 use Rattle.std.proofs.Common.{[], refl, ap, ◌∙◌}
-use Rattle.candidate_ir.specs.Syntax.Trees.{Forest}
+use Rattle.ir_trees.specs.Syntax.Trees.{Forest}
 use Rattle.rounds_judge.specs.Obligations.Responding.{renumbered, with_numbers}
 use Rattle.overlaps.proofs.PureFolder.{asked-kept, asked-then}
 use Rattle.overlaps.proofs.Stopping.{asking-stop, later-kept, later-refl, passed-on, step-stop}
 use Rattle.overlaps.specs.Stopping.{IsOverlapStop, step_numbering}
 use Rattle.candidate_assembly.proofs.Calls.Causes.{asked-somehow}
 use Rattle.candidate_eval.specs.Interface.Accounts.{resolve}
-use Rattle.candidate_ir.specs.Syntax.Words.{args_forest}
+use Rattle.ir_trees.specs.Syntax.Words.{args_forest}
 use Rattle.overlaps.proofs.instance.common_instance.Goals as goal
 
 pub returns-in_err-args-clause-stays : goal.returns-in_err-args-clause-stays

@@ -1,7 +1,7 @@
 use Rattle.std.proofs.Common.{◌≡◌}
-use Rattle.candidate_ir.specs.Instantiation.Folding.{substituted_tree}
-use Rattle.candidate_ir.specs.Syntax.Trees.{Tree}
-use Rattle.candidate_ir.specs.Syntax.Words.{args_forest}
+use Rattle.ir_trees.specs.Instantiation.Folding.{substituted_tree}
+use Rattle.ir_trees.specs.Syntax.Trees.{Tree}
+use Rattle.ir_trees.specs.Syntax.Words.{args_forest}
 use Rattle.candidate_eval.specs.Interface.Evaluators.{Keeps}
 use Rattle.candidate_eval.specs.Judges.States.{resolved_tree}
 use Rattle.overlaps.proofs.Specialized.{PutSoFar}

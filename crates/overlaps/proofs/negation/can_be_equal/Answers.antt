@@ -5,7 +5,7 @@ use Rattle.candidate_eval.proofs.Dynamic.Objects.{env-kept}
 use Rattle.candidate_eval.proofs.Interface.Accounts.{memory-somehow}
 use Rattle.candidate_eval.proofs.Interface.Probing.{keeps-probe}
 use Rattle.candidate_assembly.proofs.Calls.Causes.{so-err}
-use Rattle.candidate_ir.proofs.Hierarchy.Implying.{arg-kept}
+use Rattle.ir_folds.proofs.Hierarchy.Implying.{arg-kept}
 use Rattle.candidate_rounds.specs.Evaluators.Interface.{fixed}
 use Rattle.candidate_rounds.specs.Evaluators.Known.{probes, state}
 use Rattle.overlaps.proofs.Negated.{equation-before, some-not-none}

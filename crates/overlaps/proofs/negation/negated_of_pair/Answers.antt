@@ -1,7 +1,7 @@
 use Rattle.std.proofs.Common.{[], Some, ap, subst, sym, ◌∙◌}
 use Rattle.std.proofs.lemmas.Result.{IfOk-weaker}
-use Rattle.candidate_ir.specs.Declarations.Context.{Context}
-use Rattle.candidate_ir.proofs.Growth.Kept.{args-kept, grows-trans}
+use Rattle.ir_trees.specs.Declarations.Context.{Context}
+use Rattle.ir_trees.proofs.Growth.Kept.{args-kept, grows-trans}
 use Rattle.candidate_eval.proofs.Dynamic.Objects.{env-kept}
 use Rattle.candidate_eval.proofs.Interface.Unmade.{members-unmade}
 use Rattle.candidate_eval.specs.Interface.Accounts.StopsSomehow.{making}

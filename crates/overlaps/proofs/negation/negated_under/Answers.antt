@@ -1,7 +1,7 @@
 use Rattle.std.proofs.Common.{List, subst, sym}
 use Rattle.std.proofs.lemmas.Result.{IfOk-weaker}
-use Rattle.candidate_ir.specs.Instantiation.Owned.{ClausesAreOwned}
-use Rattle.candidate_ir.specs.Syntax.Words.{args_forest}
+use Rattle.ir_trees.specs.Instantiation.Owned.{ClausesAreOwned}
+use Rattle.ir_trees.specs.Syntax.Words.{args_forest}
 use Rattle.candidate_assembly.proofs.Calls.Causes.{so-err}
 use Rattle.candidate_rounds.specs.Evaluators.Known.{table_of}
 use Rattle.candidate_rounds.proofs.Table.Running.{stays-trans}

@@ -1,4 +1,4 @@
-use Rattle.candidate_ir.specs.declared.ir.kinds.GenericArg.TheVariants as A
+use Rattle.ir_trees.specs.declared.ir.kinds.GenericArg.TheVariants as A
 use Rattle.overlaps.proofs.Listed.{arg-there}
 use Rattle.overlaps.proofs.negation.pair_at.Goals as goal
 

@@ -1,5 +1,5 @@
 use Rattle.std.proofs.Common.{None, Some, ◌∙◌}
-use Rattle.candidate_ir.proofs.Hierarchy.Implying.{arg-kept}
+use Rattle.ir_folds.proofs.Hierarchy.Implying.{arg-kept}
 use Rattle.candidate_eval.proofs.Dynamic.Objects.{env-kept}
 use Rattle.candidate_eval.proofs.Interface.Probing.{then}
 use Rattle.candidate_rounds.specs.Evaluators.Interface.{fixed, judge_of}

@@ -1,8 +1,8 @@
 use Rattle.std.proofs.Common.{ap, ◌∙◌}
 use Rattle.std.proofs.lemmas.Result.{IfOk-weaker, err_from_is_err_and}
-use Rattle.candidate_ir.specs.Syntax.Trees.{ClauseKind}
-use Rattle.candidate_ir.specs.Syntax.Words.{clause_tree}
-use Rattle.candidate_ir.specs.Unification.Substitutions.{alone}
+use Rattle.ir_trees.specs.Syntax.Trees.{ClauseKind}
+use Rattle.ir_trees.specs.Syntax.Words.{clause_tree}
+use Rattle.ir_trees.specs.Unification.Substitutions.{alone}
 use Rattle.candidate_eval.specs.Interface.Accounts.{resolve}
 use Rattle.candidate_eval.specs.Judges.States.{State, resolved_tree}
 use Rattle.candidate_eval.proofs.Interface.Accounts.{reaches, somehow-later}

@@ -1,10 +1,10 @@
 use Rattle.std.proofs.Common.{rules, ◌≡◌, subst, sym, ◌∙◌}
 use Rattle.std.proofs.lemmas.Result.{IfOk-weaker}
 use Rattle.std.specs.Prelude.{IfSome}
-use Rattle.candidate_ir.specs.Declarations.Context.{Context}
-use Rattle.candidate_ir.specs.Declarations.Declaring.{impl_at}
-use Rattle.candidate_ir.specs.Syntax.Words.{args_forest}
-use Rattle.candidate_ir.specs.Validity.WellFormed.{ImplIsGiven}
+use Rattle.ir_trees.specs.Declarations.Context.{Context}
+use Rattle.ir_trees.specs.Declarations.Declaring.{impl_at}
+use Rattle.ir_trees.specs.Syntax.Words.{args_forest}
+use Rattle.ir_trees.specs.Validity.WellFormed.{ImplIsGiven}
 use Rattle.candidate_eval.specs.Interface.Accounts.{StopsSomehow}
 use Rattle.candidate_eval.proofs.Interface.Accounts.{reaches, somehow-later}
 use Rattle.candidate_eval.proofs.Interface.Probing.{keeps-trans}

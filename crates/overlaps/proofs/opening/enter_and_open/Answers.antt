@@ -1,8 +1,8 @@
 use Rattle.std.proofs.Common.{rules, subst}
 use Rattle.std.specs.Prelude.{IfSome}
-use Rattle.candidate_ir.specs.Declarations.Context.{Context}
-use Rattle.candidate_ir.specs.Declarations.Declaring.{impl_at}
-use Rattle.candidate_ir.specs.Validity.WellFormed.{ImplIsGiven}
+use Rattle.ir_trees.specs.Declarations.Context.{Context}
+use Rattle.ir_trees.specs.Declarations.Declaring.{impl_at}
+use Rattle.ir_trees.specs.Validity.WellFormed.{ImplIsGiven}
 use Rattle.overlaps.specs.Opening.{IsEntered, IsOpened}
 use Rattle.overlaps.proofs.OpenedImpls.{entered-and-opened}
 use Rattle.overlaps.proofs.Stopping.{passed-on}

@@ -1,8 +1,8 @@
 use Rattle.std.proofs.Common.{rules, refl, subst}
-use Rattle.candidate_ir.specs.Declarations.Context.{Context}
-use Rattle.candidate_ir.specs.Syntax.Trees.{ArgumentsKind}
-use Rattle.candidate_ir.specs.Syntax.Words.{args_forest}
-use Rattle.candidate_ir.proofs.Instantiation.Substituting.{list-there}
+use Rattle.ir_trees.specs.Declarations.Context.{Context}
+use Rattle.ir_trees.specs.Syntax.Trees.{ArgumentsKind}
+use Rattle.ir_trees.specs.Syntax.Words.{args_forest}
+use Rattle.ir_folds.proofs.Instantiation.Substituting.{list-there}
 use Rattle.candidate_assembly.specs.Calls.Impls.{IsDeclared}
 use Rattle.overlaps.proofs.OpenedImpls.{header-fits, header-has, is-opened}
 use Rattle.overlaps.proofs.Stopping.{passed-on, substitute-somehow}

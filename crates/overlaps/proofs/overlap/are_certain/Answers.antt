@@ -1,7 +1,7 @@
 use Rattle.std.proofs.Common.{inl, inr, subst}
 use Rattle.std.proofs.lemmas.Result.{IfOk-weaker}
-use Rattle.candidate_ir.specs.Declarations.Context.{Context}
-use Rattle.candidate_ir.specs.Syntax.Words.{args_forest}
+use Rattle.ir_trees.specs.Declarations.Context.{Context}
+use Rattle.ir_trees.specs.Syntax.Words.{args_forest}
 use Rattle.candidate_rounds.proofs.Table.Running.{stays-refl}
 use Rattle.overlaps.specs.Uncertain.{HeadersHaveAlias}
 use Rattle.overlaps.proofs.overlap.are_certain.Goals as goal

@@ -1,5 +1,5 @@
 use Rattle.std.proofs.Common.{◌∙◌, IfOk, ap, subst}
-use Rattle.candidate_ir.specs.declared.decl.contents.ImplId.{ImplId}
+use Rattle.ir_trees.specs.declared.decl.contents.ImplId.{ImplId}
 use Rattle.candidate_rounds.specs.Evaluators.Known.{state, table_of}
 use Rattle.overlaps.specs.Allowed.{allowance_of_ordered}
 use Rattle.overlaps.specs.Apart.{OfDeclared, aside}

@@ -1,6 +1,6 @@
 use Rattle.std.proofs.Common.{rules, subst}
 use Rattle.std.proofs.lemmas.Result.{IfOk-weaker}
-use Rattle.candidate_ir.specs.Validity.WellFormed.{IsWellFormedTable}
+use Rattle.ir_trees.specs.Validity.WellFormed.{IsWellFormedTable}
 use Rattle.candidate_rounds.specs.Evaluators.Known.{state, table_of}
 use Rattle.overlaps.proofs.AskedPairs.{may-weaker, of-clause-weaker, pair-declared, pair-declared-before}
 use Rattle.overlaps.specs.Opening.{AreOpened}

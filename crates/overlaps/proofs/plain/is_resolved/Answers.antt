@@ -1,11 +1,11 @@
 use Rattle.std.proofs.Common.{subst}
-use Rattle.candidate_ir.specs.Declarations.Context.{Context}
-use Rattle.candidate_ir.specs.Syntax.Table.{AreDistinct}
+use Rattle.ir_trees.specs.Declarations.Context.{Context}
+use Rattle.ir_trees.specs.Syntax.Table.{AreDistinct}
 use Rattle.overlaps.proofs.AskedClauses.{isnt-resolved}
 use Rattle.overlaps.proofs.Stopping.{passed-on}
 use Rattle.candidate_assembly.proofs.Calls.Causes.{asked-somehow}
 use Rattle.candidate_eval.specs.Interface.Accounts.{StopsSomehow, resolve}
-use Rattle.candidate_ir.specs.Syntax.Words.{args_forest}
+use Rattle.ir_trees.specs.Syntax.Words.{args_forest}
 use Rattle.overlaps.proofs.plain.is_resolved.Goals as goal
 
 pub returns-in_err-all-clause-cause : goal.returns-in_err-all-clause-cause

@@ -1,4 +1,4 @@
-use Rattle.candidate_ir.specs.Syntax.Words.{args_forest, env_forest}
+use Rattle.ir_trees.specs.Syntax.Words.{args_forest, env_forest}
 use Rattle.candidate_eval.specs.Interface.Accounts.{equate}
 use Rattle.candidate_assembly.proofs.Calls.Causes.{asked-somehow}
 use Rattle.overlaps.proofs.plain.make_equal.Goals as goal

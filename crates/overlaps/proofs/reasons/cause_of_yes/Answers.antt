@@ -1,5 +1,5 @@
 use Rattle.std.proofs.Common.{sym, ◌∙◌}
-use Rattle.candidate_ir.proofs.Growth.Kept.{grows-refl}
+use Rattle.ir_trees.proofs.Growth.Kept.{grows-refl}
 use Rattle.overlaps.specs.Reasons.{gives_values, rests_on_part}
 use Rattle.overlaps.proofs.reasons.cause_of_yes.Goals as goal
 

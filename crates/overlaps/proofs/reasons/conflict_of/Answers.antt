@@ -1,7 +1,7 @@
 use Rattle.std.proofs.Common.{sym, subst, ap}
-use Rattle.candidate_ir.specs.Declarations.Context.{Context}
-use Rattle.candidate_ir.specs.Declarations.References.{reference_of}
-use Rattle.candidate_ir.specs.Syntax.Words.{env_forest}
+use Rattle.ir_trees.specs.Declarations.Context.{Context}
+use Rattle.ir_trees.specs.Declarations.References.{reference_of}
+use Rattle.ir_trees.specs.Syntax.Words.{env_forest}
 use Rattle.candidate_eval.specs.Interface.Shown.{knows_here, view}
 use Rattle.candidate_eval.specs.Judges.States.{State}
 use Rattle.candidate_eval.proofs.Interface.Accounts.{memory-somehow}

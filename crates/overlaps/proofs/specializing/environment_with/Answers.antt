@@ -1,10 +1,10 @@
 use Rattle.std.proofs.Common.{◌≡◌, List, refl, subst, sym, ◌∙◌}
 use Rattle.std.specs.Prelude.{map}
 use Rattle.std.proofs.lemmas.Result.{IfErr-weaker, IfOk-weaker, err_from_is_err_and}
-use Rattle.candidate_ir.specs.declared.ir.kinds.Clause.{Clause}
-use Rattle.candidate_ir.specs.Hierarchy.Elaboration.{IsElaboration}
-use Rattle.candidate_ir.specs.Syntax.Words.{ClauseListFits, clause_tree, env_forest}
-use Rattle.candidate_ir.proofs.Growth.Kept.{grows-refl}
+use Rattle.ir_trees.specs.declared.ir.kinds.Clause.{Clause}
+use Rattle.ir_trees.specs.Hierarchy.Elaboration.{IsElaboration}
+use Rattle.ir_trees.specs.Syntax.Words.{ClauseListFits, clause_tree, env_forest}
+use Rattle.ir_trees.proofs.Growth.Kept.{grows-refl}
 use Rattle.candidate_eval.specs.Interface.Accounts.StopsSomehow.{making}
 use Rattle.candidate_eval.specs.Interface.Unmade.IsUnmade.{of_elaboration}
 use Rattle.candidate_eval.proofs.Interface.Probing.{made, then}

@@ -1,6 +1,6 @@
 use Rattle.std.proofs.Common.{slice_index_or}
-use Rattle.candidate_ir.proofs.Growth.Kept.{args-kept}
-use Rattle.candidate_ir.proofs.Instantiation.Joining.{clause-kept}
+use Rattle.ir_trees.proofs.Growth.Kept.{args-kept}
+use Rattle.ir_folds.proofs.Instantiation.Joining.{clause-kept}
 use Rattle.candidate_eval.proofs.Dynamic.Objects.{env-kept}
 use Rattle.candidate_eval.proofs.Outcomes.Pairs.{clause_there}
 use Rattle.candidate_rounds.proofs.Table.Running.{stays-refl, stays-trans}

@@ -1,8 +1,8 @@
 use Rattle.std.proofs.Common.{List, sym, subst, ◌∙◌}
-use Rattle.candidate_ir.specs.declared.ir.kinds.Clause.{Clause}
-use Rattle.candidate_ir.specs.Instantiation.Owned.{ClausesAreOwned}
-use Rattle.candidate_ir.specs.Syntax.Words.{args_forest, env_forest}
-use Rattle.candidate_ir.proofs.Growth.Kept.{args-kept}
+use Rattle.ir_trees.specs.declared.ir.kinds.Clause.{Clause}
+use Rattle.ir_trees.specs.Instantiation.Owned.{ClausesAreOwned}
+use Rattle.ir_trees.specs.Syntax.Words.{args_forest, env_forest}
+use Rattle.ir_trees.proofs.Growth.Kept.{args-kept}
 use Rattle.candidate_eval.proofs.Dynamic.Objects.{env-kept}
 use Rattle.candidate_assembly.proofs.Rules.ImplSteps.{owned-still}
 use Rattle.candidate_rounds.proofs.Table.Running.{stays-trans}

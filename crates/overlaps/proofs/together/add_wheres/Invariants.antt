@@ -1,6 +1,6 @@
 use Rattle.std.proofs.Common.{◌≡◌}
 use Rattle.candidate_eval.specs.Interface.Shown.{Keeps}
-use Rattle.candidate_ir.specs.Syntax.Words.{args_forest}
+use Rattle.ir_trees.specs.Syntax.Words.{args_forest}
 use Rattle.candidate_rounds.specs.Evaluators.Known.{state}
 use Rattle.candidate_rounds.specs.Table.Normalizing.{rounds_shown}
 use Rattle.overlaps.proofs.JointPairs.{AddedSoFar}

@@ -1,7 +1,7 @@
 use Rattle.std.proofs.Common.{rules, suc}
-use Rattle.candidate_ir.specs.Instantiation.Results.{IsChildAt}
-use Rattle.candidate_ir.specs.Syntax.Nodes.{tree_at}
-use Rattle.candidate_ir.specs.Syntax.Trees.{skip}
+use Rattle.ir_trees.specs.Instantiation.Results.{IsChildAt}
+use Rattle.ir_trees.specs.Syntax.Nodes.{tree_at}
+use Rattle.ir_trees.specs.Syntax.Trees.{skip}
 use Rattle.overlaps.proofs.Jointly.{stands-at}
 use Rattle.overlaps.proofs.together.child_with_alias.Goals as goal
 

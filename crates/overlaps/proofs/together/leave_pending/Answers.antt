@@ -1,5 +1,5 @@
 use Rattle.std.proofs.Common.{◌≡◌, ◌++◌, rules, subst, sym}
-use Rattle.candidate_ir.specs.Declarations.Context.{Context}
+use Rattle.ir_trees.specs.Declarations.Context.{Context}
 use Rattle.candidate_rounds.specs.Evaluators.Known.{Each}
 use Rattle.candidate_rounds.proofs.Table.Rounding.{each-join}
 use Rattle.overlaps.specs.Together.{IsObligation, Obligation}

@@ -1,7 +1,7 @@
 use Rattle.std.proofs.Common.{◌≡◌, None, Some, subst}
-use Rattle.candidate_ir.specs.declared.ir.kinds.TyKind.TheVariants as K
-use Rattle.candidate_ir.specs.Syntax.Words.{kind_tree, ty_tree}
-use Rattle.candidate_ir.proofs.Growth.Kept.{ty-kept}
+use Rattle.ir_trees.specs.declared.ir.kinds.TyKind.TheVariants as K
+use Rattle.ir_trees.specs.Syntax.Words.{kind_tree, ty_tree}
+use Rattle.ir_trees.proofs.Growth.Kept.{ty-kept}
 use Rattle.candidate_eval.proofs.Dynamic.Objects.{env-kept}
 use Rattle.candidate_eval.proofs.Interface.Accounts.{memory-somehow}
 use Rattle.candidate_assembly.proofs.Calls.Causes.{so-err}

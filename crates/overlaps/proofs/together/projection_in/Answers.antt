@@ -1,6 +1,6 @@
 use Rattle.std.proofs.Common.{refl}
-use Rattle.candidate_ir.specs.Syntax.Trees.{ClauseKind}
-use Rattle.candidate_ir.proofs.Syntax.Lists.{below_kind}
+use Rattle.ir_trees.specs.Syntax.Trees.{ClauseKind}
+use Rattle.ir_trees.proofs.Syntax.Lists.{below_kind}
 use Rattle.overlaps.specs.Together.{here}
 use Rattle.overlaps.proofs.Jointly.{stands-below}
 use Rattle.overlaps.proofs.together.projection_in.Goals as goal

@@ -1,11 +1,11 @@
 use Rattle.std.proofs.Common.{rules, ◌≡◌, sym, subst}
-use Rattle.candidate_ir.specs.declared.ir.kinds.AliasTy.{AliasTy}
-use Rattle.candidate_ir.specs.declared.ir.kinds.TyKind.{TyKind}
-use Rattle.candidate_ir.specs.declared.ir.kinds.TyKind.TheVariants as K
-use Rattle.candidate_ir.specs.declared.ir.kinds.ClauseKind.TheVariants as CK
-use Rattle.candidate_ir.specs.Declarations.Context.{world}
-use Rattle.candidate_ir.specs.Declarations.References.{Takes}
-use Rattle.candidate_ir.specs.Syntax.Words.{clause_tree, kind_tree}
+use Rattle.ir_trees.specs.declared.ir.kinds.AliasTy.{AliasTy}
+use Rattle.ir_trees.specs.declared.ir.kinds.TyKind.{TyKind}
+use Rattle.ir_trees.specs.declared.ir.kinds.TyKind.TheVariants as K
+use Rattle.ir_trees.specs.declared.ir.kinds.ClauseKind.TheVariants as CK
+use Rattle.ir_trees.specs.Declarations.Context.{world}
+use Rattle.ir_trees.specs.Declarations.References.{Takes}
+use Rattle.ir_trees.specs.Syntax.Words.{clause_tree, kind_tree}
 use Rattle.candidate_rounds.specs.Table.Trying.{Says, projection_of}
 use Rattle.candidate_rounds.proofs.Obligations.Projecting.{alias-is, clause-read, term-is}
 use Rattle.overlaps.proofs.Jointly.{said-as-read}

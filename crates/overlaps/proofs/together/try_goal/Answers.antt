@@ -1,8 +1,8 @@
 use Rattle.std.proofs.Common.{◌≡◌, ap, refl, rules, ◌∙◌}
 use Rattle.std.proofs.lemmas.Result.{IfOk-weaker}
-use Rattle.candidate_ir.specs.declared.ir.kinds.ParamEnv.{ParamEnv}
-use Rattle.candidate_ir.specs.Unification.Substitutions.{alone}
-use Rattle.candidate_ir.specs.Syntax.Words.{clause_tree, env_forest}
+use Rattle.ir_trees.specs.declared.ir.kinds.ParamEnv.{ParamEnv}
+use Rattle.ir_trees.specs.Unification.Substitutions.{alone}
+use Rattle.ir_trees.specs.Syntax.Words.{clause_tree, env_forest}
 use Rattle.candidate_eval.specs.Interface.Accounts.{resolve}
 use Rattle.candidate_eval.specs.Judges.States.{Pending}
 use Rattle.candidate_eval.proofs.Interface.Accounts.{memory-somehow}

@@ -1,11 +1,11 @@
 use Rattle.std.proofs.Common.{◌≡◌, [], Some, subst, sym, ◌∙◌}
 use Rattle.std.proofs.lemmas.Result.{err_from_is_err_and}
-use Rattle.candidate_ir.specs.Declarations.Context.{Context}
-use Rattle.candidate_ir.specs.Declarations.References.{ArgumentsFit}
-use Rattle.candidate_ir.specs.Declarations.Worlds.{World, TraitSort, parameters}
-use Rattle.candidate_ir.specs.Syntax.Trees.{is_param}
-use Rattle.candidate_ir.specs.Syntax.Words.{IsArgs}
-use Rattle.candidate_ir.proofs.Growth.Kept.{args-kept, grows-trans, ty-kept, world-kept}
+use Rattle.ir_trees.specs.Declarations.Context.{Context}
+use Rattle.ir_trees.specs.Declarations.References.{ArgumentsFit}
+use Rattle.ir_trees.specs.Declarations.Worlds.{World, TraitSort, parameters}
+use Rattle.ir_trees.specs.Syntax.Trees.{is_param}
+use Rattle.ir_trees.specs.Syntax.Words.{IsArgs}
+use Rattle.ir_trees.proofs.Growth.Kept.{args-kept, grows-trans, ty-kept, world-kept}
 use Rattle.candidate_eval.specs.Builtins.Callable.{CalledWith, callable_of}
 use Rattle.candidate_eval.specs.Derivations.Judging.{judged}
 use Rattle.candidate_eval.proofs.Interface.Accounts.{by-stop, reaches}

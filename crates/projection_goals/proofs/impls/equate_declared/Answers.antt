@@ -1,12 +1,12 @@
 use Rattle.std.proofs.Common.{◌≡◌, refl, Some, None, IfOk, IfErr}
 use Rattle.std.proofs.lemmas.Result.{err_from_is_err_and}
-use Rattle.candidate_ir.specs.Instantiation.Folding.{substituted, substituted_tree}
-use Rattle.candidate_ir.specs.Syntax.Trees.{ArgumentsKind, TypeKind}
-use Rattle.candidate_ir.specs.Syntax.Words.{args_forest, env_forest, ty_tree}
-use Rattle.candidate_ir.specs.Unification.Substitutions.{alone}
-use Rattle.candidate_ir.proofs.Growth.Kept.{args-kept, grows-refl, ty-kept}
-use Rattle.candidate_ir.proofs.Instantiation.Folding.{substituted-nothing}
-use Rattle.candidate_ir.proofs.Instantiation.Substituting.{list-there}
+use Rattle.ir_trees.specs.Instantiation.Folding.{substituted, substituted_tree}
+use Rattle.ir_trees.specs.Syntax.Trees.{ArgumentsKind, TypeKind}
+use Rattle.ir_trees.specs.Syntax.Words.{args_forest, env_forest, ty_tree}
+use Rattle.ir_trees.specs.Unification.Substitutions.{alone}
+use Rattle.ir_trees.proofs.Growth.Kept.{args-kept, grows-refl, ty-kept}
+use Rattle.ir_trees.proofs.Instantiation.Folding.{substituted-nothing}
+use Rattle.ir_folds.proofs.Instantiation.Substituting.{list-there}
 use Rattle.candidate_eval.specs.declared.eval.refusal.NoSolutionOrStop.TheVariants.{NoSolution}
 use Rattle.candidate_eval.specs.Interface.Accounts.StopsSomehow.{making}
 use Rattle.candidate_eval.specs.Interface.Unmade.IsMade.{with_arguments}

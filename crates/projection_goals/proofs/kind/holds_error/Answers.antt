@@ -1,8 +1,8 @@
 use Rattle.std.proofs.Common.{◌∙◌, false, refl, sym, true}
-use Rattle.candidate_ir.specs.declared.ir.heads.Flag.TheVariants.{Error}
-use Rattle.candidate_ir.specs.Syntax.Flags.{mark}
-use Rattle.candidate_ir.specs.Syntax.Trees.{tree_holds}
-use Rattle.candidate_ir.specs.Syntax.Words.{args_forest, ty_tree}
+use Rattle.ir_trees.specs.declared.ir.heads.Flag.TheVariants.{Error}
+use Rattle.ir_trees.specs.Syntax.Flags.{mark}
+use Rattle.ir_trees.specs.Syntax.Trees.{tree_holds}
+use Rattle.ir_trees.specs.Syntax.Words.{args_forest, ty_tree}
 use Rattle.projection_goals.proofs.Changing.{held-either}
 use Rattle.projection_goals.proofs.kind.holds_error.Goals as goal
 

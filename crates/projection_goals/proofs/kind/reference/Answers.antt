@@ -1,8 +1,8 @@
 use Rattle.std.proofs.Common.{ap, sym, ◌∙◌, Some, [], ◌∷◌}
-use Rattle.candidate_ir.specs.Declarations.Context.{world}
-use Rattle.candidate_ir.specs.Declarations.Worlds.{TraitSort, joined, parameters}
-use Rattle.candidate_ir.specs.Syntax.Trees.{TypeKind}
-use Rattle.candidate_ir.specs.Syntax.Words.{args_forest}
+use Rattle.ir_trees.specs.Declarations.Context.{world}
+use Rattle.ir_trees.specs.Declarations.Worlds.{TraitSort, joined, parameters}
+use Rattle.ir_trees.specs.Syntax.Trees.{TypeKind}
+use Rattle.ir_trees.specs.Syntax.Words.{args_forest}
 use Rattle.projection_goals.proofs.Changing.{fit-here, reference-here}
 use Rattle.projection_goals.proofs.kind.reference.Goals as goal
 

@@ -1,8 +1,8 @@
 use Rattle.std.proofs.Common.{◌≡◌, ◌∙◌, ◌<◌, ap, length, refl, subst, sym}
-use Rattle.candidate_ir.specs.Declarations.Context.{Context}
-use Rattle.candidate_ir.specs.Syntax.Trees.{Tree, TypeKind}
-use Rattle.candidate_ir.specs.Syntax.Words.{IsTy, args_forest, ty_tree}
-use Rattle.candidate_ir.proofs.Syntax.Lists.{below_kind}
+use Rattle.ir_trees.specs.Declarations.Context.{Context}
+use Rattle.ir_trees.specs.Syntax.Trees.{Tree, TypeKind}
+use Rattle.ir_trees.specs.Syntax.Words.{IsTy, args_forest, ty_tree}
+use Rattle.ir_trees.proofs.Syntax.Lists.{below_kind}
 use Rattle.candidate_eval.specs.Dynamic.ObjectRequirements.{first_tree}
 use Rattle.candidate_assembly.proofs.Calls.Considering.{considers-same}
 use Rattle.projection_goals.specs.LanguageTypes.{discriminant, known_rule}

@@ -1,7 +1,7 @@
 use Rattle.std.proofs.Common.{◌∙◌, ap, sym, true}
-use Rattle.candidate_ir.specs.declared.ir.unify.RightSide.TheVariants.{Plain}
-use Rattle.candidate_ir.specs.Unification.Unify.{may_unify}
-use Rattle.candidate_ir.specs.Syntax.Words.{args_forest, clause_tree}
+use Rattle.ir_trees.specs.declared.ir.unify.RightSide.TheVariants.{Plain}
+use Rattle.ir_trees.specs.Unification.Unify.{may_unify}
+use Rattle.ir_trees.specs.Syntax.Words.{args_forest, clause_tree}
 use Rattle.projection_goals.specs.Normalizing.{normalizes_goal}
 use Rattle.projection_goals.proofs.Clauses.{passes-about}
 use Rattle.projection_goals.proofs.matching.fast_reject.Goals as goal

@@ -1,5 +1,5 @@
 use Rattle.std.proofs.Common.{rules, ◌≡◌}
-use Rattle.candidate_ir.specs.declared.ir.kinds.ClauseKind.TheVariants as K
+use Rattle.ir_trees.specs.declared.ir.kinds.ClauseKind.TheVariants as K
 use Rattle.candidate_eval.proofs.Dynamic.Objects.{about_yes}
 use Rattle.projection_goals.proofs.matching.said_of.Goals as goal
 

@@ -1,10 +1,10 @@
 use Rattle.std.proofs.Common.{◌≡◌, ◌∙◌, Some, [], ap, refl, subst, sym}
 use Rattle.std.proofs.lemmas.Result.{err_from_is_err_and}
-use Rattle.candidate_ir.specs.declared.ir.kinds.TyKind.TheVariants as TK
-use Rattle.candidate_ir.specs.Declarations.Worlds.{all_of, kinds_of}
-use Rattle.candidate_ir.specs.Syntax.Nodes.{tree_at}
-use Rattle.candidate_ir.specs.Syntax.Trees.{ArgumentsKind, Forest, TypeKind, join, none, row}
-use Rattle.candidate_ir.proofs.Syntax.Rows.{row-list}
+use Rattle.ir_trees.specs.declared.ir.kinds.TyKind.TheVariants as TK
+use Rattle.ir_trees.specs.Declarations.Worlds.{all_of, kinds_of}
+use Rattle.ir_trees.specs.Syntax.Nodes.{tree_at}
+use Rattle.ir_trees.specs.Syntax.Trees.{ArgumentsKind, Forest, TypeKind, join, none, row}
+use Rattle.ir_trees.proofs.Syntax.Rows.{row-list}
 use Rattle.candidate_eval.specs.Builtins.Callable.{tuple_of}
 use Rattle.candidate_eval.proofs.Interface.Unmade.{members-unmade, type-unmade}
 use Rattle.candidate_assembly.proofs.Calls.Causes.{so-err, so-ok}

@@ -1,4 +1,4 @@
-use Rattle.candidate_ir.specs.declared.ir.kinds.TyKind.TheVariants as TK
+use Rattle.ir_trees.specs.declared.ir.kinds.TyKind.TheVariants as TK
 use Rattle.candidate_eval.specs.Interface.Accounts.StopsSomehow.{making}
 use Rattle.candidate_eval.proofs.Interface.Probing.{made}
 use Rattle.candidate_eval.proofs.Interface.Unmade.{type-unmade}

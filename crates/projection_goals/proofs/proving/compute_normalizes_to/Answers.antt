@@ -1,6 +1,6 @@
 use Rattle.std.proofs.Common.{◌≡◌, ◌∙◌, ap, rules, subst, sym, None}
-use Rattle.candidate_ir.specs.Declarations.Context.{Grows}
-use Rattle.candidate_ir.proofs.Growth.Kept.{grows-refl}
+use Rattle.ir_trees.specs.Declarations.Context.{Grows}
+use Rattle.ir_trees.proofs.Growth.Kept.{grows-refl}
 use Rattle.candidate_assembly.specs.Answers.MergedKinds.{Answers}
 use Rattle.candidate_assembly.specs.Goals.KindShown.{IsGoal}
 use Rattle.candidate_assembly.proofs.Calls.Keeping.{goal-kept}

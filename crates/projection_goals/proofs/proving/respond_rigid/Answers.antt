@@ -1,8 +1,8 @@
 use Rattle.std.proofs.Common.{◌≡◌, refl, subst, sym}
 use Rattle.std.proofs.lemmas.Result.{err_from_is_err_and}
-use Rattle.candidate_ir.specs.declared.ir.kinds.TyKind.TheVariants as TK
-use Rattle.candidate_ir.specs.Syntax.Words.{env_forest, kind_tree, ty_tree}
-use Rattle.candidate_ir.proofs.Growth.Kept.{ty-kept}
+use Rattle.ir_trees.specs.declared.ir.kinds.TyKind.TheVariants as TK
+use Rattle.ir_trees.specs.Syntax.Words.{env_forest, kind_tree, ty_tree}
+use Rattle.ir_trees.proofs.Growth.Kept.{ty-kept}
 use Rattle.candidate_eval.proofs.Dynamic.Objects.{env-kept}
 use Rattle.candidate_assembly.proofs.Calls.Causes.{answered-stop}
 use Rattle.projection_goals.specs.Equations.{equal_by}

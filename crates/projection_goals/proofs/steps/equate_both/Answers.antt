@@ -1,8 +1,8 @@
 use Rattle.std.proofs.Common.{◌≡◌, ap, ◌∙◌, sym, Some, None, IfOk, IfErr}
 use Rattle.std.proofs.lemmas.Result.{err_from_is_err_and}
-use Rattle.candidate_ir.specs.Syntax.Words.{env_forest, ty_tree}
-use Rattle.candidate_ir.specs.Unification.Substitutions.{alone}
-use Rattle.candidate_ir.proofs.Growth.Kept.{ty-kept}
+use Rattle.ir_trees.specs.Syntax.Words.{env_forest, ty_tree}
+use Rattle.ir_trees.specs.Unification.Substitutions.{alone}
+use Rattle.ir_trees.proofs.Growth.Kept.{ty-kept}
 use Rattle.candidate_eval.specs.declared.eval.refusal.NoSolutionOrStop.TheVariants.{NoSolution}
 use Rattle.candidate_eval.specs.Interface.Accounts.StopsSomehow.{asking}
 use Rattle.candidate_eval.specs.Interface.Evaluators.{accepted}

@@ -1,11 +1,11 @@
 use Rattle.std.proofs.Common.{◌≡◌, ◌+◌, get_or, refl, sym, subst, ap, ◌∙◌, arith, rules}
-use Rattle.candidate_ir.specs.declared.ir.kinds.GenericArg.{GenericArg}
-use Rattle.candidate_ir.specs.declared.ir.kinds.GenericArg.TheVariants as A
-use Rattle.candidate_ir.specs.declared.ir.kinds.ExistentialPredicate.TheVariants as E
-use Rattle.candidate_ir.specs.declared.ir.kinds.TyKind.TheVariants as K
-use Rattle.candidate_ir.specs.Instantiation.Folds.{IsArg, arg_tree}
-use Rattle.candidate_ir.specs.Syntax.Words.{PredFits, args_forest, pred_kind_tree, preds_forest, region_tree, ty_tree, vars_tree}
-use Rattle.candidate_ir.proofs.Growth.Made.{IsPred-listed}
+use Rattle.ir_trees.specs.declared.ir.kinds.GenericArg.{GenericArg}
+use Rattle.ir_trees.specs.declared.ir.kinds.GenericArg.TheVariants as A
+use Rattle.ir_trees.specs.declared.ir.kinds.ExistentialPredicate.TheVariants as E
+use Rattle.ir_trees.specs.declared.ir.kinds.TyKind.TheVariants as K
+use Rattle.ir_trees.specs.Instantiation.Folds.{IsArg, arg_tree}
+use Rattle.ir_trees.specs.Syntax.Words.{PredFits, args_forest, pred_kind_tree, preds_forest, region_tree, ty_tree, vars_tree}
+use Rattle.ir_trees.proofs.Growth.Made.{IsPred-listed}
 use Rattle.assembly_notation.specs.Spelling.{binder_words, first_spaces, region_words, tree_words, words}
 use Rattle.assembly_notation.proofs.Listed.{IsArg-listed}
 use Rattle.assembly_notation.proofs.Printed.{added-more, added-over, adds-as, adds-both, adds-space, adt-words, alias-words, args-left, array-words, auto-bound-words, const-word, dyn-words, fn-words, pointer-words, preds-left, projection-bound-words, ref-words, region-word, slice-words, spelled-over, trait-bound-words, tuple-words}

@@ -1,5 +1,5 @@
 use Rattle.std.proofs.Common.{◌+◌, ◌*◌, drop, string_bytes}
-use Rattle.candidate_ir.specs.Syntax.Words.{ListFits, PredListFits, list_forest, pred_list_forest}
+use Rattle.ir_trees.specs.Syntax.Words.{ListFits, PredListFits, list_forest, pred_list_forest}
 use Rattle.assembly_notation.specs.Spelling.{words}
 use Rattle.assembly_notation.proofs.Printed.{IsAddedTo}
 use Rattle.assembly_notation.proofs.types.Scope+Cx.+printing.Given as goal

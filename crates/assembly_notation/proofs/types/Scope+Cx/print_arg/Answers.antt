@@ -1,7 +1,7 @@
 use Rattle.std.proofs.Common.{◌≡◌, string_bytes, subst, ap, ◌∙◌}
 use Rattle.std.specs.Prelude.{OnOk}
-use Rattle.candidate_ir.specs.declared.ir.kinds.GenericArg.TheVariants as A
-use Rattle.candidate_ir.specs.Instantiation.Folds.{IsArg, arg_tree}
+use Rattle.ir_trees.specs.declared.ir.kinds.GenericArg.TheVariants as A
+use Rattle.ir_trees.specs.Instantiation.Folds.{IsArg, arg_tree}
 use Rattle.assembly_notation.specs.Spelling.{AddsSpaces, tree_words}
 use Rattle.assembly_notation.proofs.Printed.{const-word, prints-one, region-word, space-is}
 use Rattle.assembly_notation.proofs.types.Scope+Cx.print_arg.Goals as goal

@@ -1,5 +1,5 @@
 use Rattle.std.proofs.Common.{sym}
-use Rattle.candidate_ir.specs.Syntax.Words.{vars_tree}
+use Rattle.ir_trees.specs.Syntax.Words.{vars_tree}
 use Rattle.assembly_notation.specs.Spelling.{binder_words}
 use Rattle.assembly_notation.proofs.Printed.{adds-both, adds-as, adds-space, some-bound}
 use Rattle.assembly_notation.proofs.types.Scope+Cx.print_binder.Goals as goal

@@ -1,4 +1,4 @@
-use Rattle.candidate_ir.specs.Syntax.Words.{ty_tree}
+use Rattle.ir_trees.specs.Syntax.Words.{ty_tree}
 use Rattle.assembly_notation.specs.Spelling.{first_spaces}
 use Rattle.assembly_notation.proofs.Printed.{first-few, prints-first}
 use Rattle.assembly_notation.proofs.types.Scope+Cx.print_type.Goals as goal

@@ -1,6 +1,6 @@
 use Rattle.std.proofs.Common.{string_bytes, refl, subst}
-use Rattle.candidate_ir.specs.declared.ir.kinds.GenericArg.TheVariants as A
-use Rattle.candidate_ir.specs.Syntax.Trees.{Forest}
+use Rattle.ir_trees.specs.declared.ir.kinds.GenericArg.TheVariants as A
+use Rattle.ir_trees.specs.Syntax.Trees.{Forest}
 use Rattle.assembly_notation.specs.Spelling.{AddsEach}
 use Rattle.assembly_notation.proofs.Listed.{IsArg-listed}
 use Rattle.assembly_notation.proofs.Printed.{prints-all, prints-more}

@@ -1,5 +1,5 @@
 use Rattle.std.proofs.Common.{List, ℕ, drop, string_bytes}
-use Rattle.candidate_ir.specs.Syntax.Words.{ListFits, list_forest}
+use Rattle.ir_trees.specs.Syntax.Words.{ListFits, list_forest}
 use Rattle.assembly_notation.specs.Spelling.{AddsEach}
 use Rattle.assembly_notation.proofs.types.Scope+Cx.print_types.Given as goal
 

@@ -1,4 +1,4 @@
-use Rattle.candidate_ir.proofs.Growth.Made.{ListFits-grows}
+use Rattle.ir_trees.proofs.Growth.Made.{ListFits-grows}
 use Rattle.assembly_notation.proofs.types.Scope+Draft.read_clause.Goals as goal
 
 pub projection_clause-requires-clause-list : goal.projection_clause-requires-clause-list

@@ -1,10 +1,10 @@
 use Rattle.std.proofs.Common.{◌≡◌, ℕ, ◌+◌, [], ◌∷◌, ◌++◌, ◌∙◌, ap, refl, sym}
 use Rattle.std.specs.Prelude.{Bool, ◌||◌}
-use Rattle.candidate_ir.specs.declared.ir.kinds.GenericArg.TheVariants as A
-use Rattle.candidate_ir.proofs.Growth.Kept.{grows-trans}
-use Rattle.candidate_ir.specs.Syntax.Trees.{RegionKind}
-use Rattle.candidate_ir.proofs.Growth.Made.{IsRegion-grows, ListFits-grows, BoundsFit-one, principals-one, one_if, one_if-or}
-use Rattle.candidate_ir.specs.Syntax.Words.{names_trait}
+use Rattle.ir_trees.specs.declared.ir.kinds.GenericArg.TheVariants as A
+use Rattle.ir_trees.proofs.Growth.Kept.{grows-trans}
+use Rattle.ir_trees.specs.Syntax.Trees.{RegionKind}
+use Rattle.ir_trees.proofs.Growth.Made.{IsRegion-grows, ListFits-grows, BoundsFit-one, principals-one, one_if, one_if-or}
+use Rattle.ir_trees.specs.Syntax.Words.{names_trait}
 use Rattle.assembly_notation.proofs.Lacking.{fits-one, lacks-grows, list-lacks-one, list-lacks-grows, bounds-lack-one}
 use Rattle.assembly_notation.proofs.types.Scope.+types.Goals as goal
 

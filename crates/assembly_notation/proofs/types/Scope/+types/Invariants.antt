@@ -1,11 +1,11 @@
 use Rattle.std.proofs.Common.{◌≡◌, List, Bool, ◌+◌, ◌*◌}
 use Rattle.std.specs.Prelude.{count_by}
-use Rattle.candidate_ir.specs.Declarations.Context.{Context, Grows}
-use Rattle.candidate_ir.specs.declared.ir.kinds.Binder.{Binder}
-use Rattle.candidate_ir.specs.declared.ir.kinds.ExistentialPredicate.{ExistentialPredicate}
-use Rattle.candidate_ir.specs.declared.ir.kinds.GenericArg.{GenericArg}
-use Rattle.candidate_ir.specs.Syntax.Words.{ListFits, BoundsFit, names_trait}
-use Rattle.candidate_ir.proofs.Growth.Made.{one_if}
+use Rattle.ir_trees.specs.Declarations.Context.{Context, Grows}
+use Rattle.ir_trees.specs.declared.ir.kinds.Binder.{Binder}
+use Rattle.ir_trees.specs.declared.ir.kinds.ExistentialPredicate.{ExistentialPredicate}
+use Rattle.ir_trees.specs.declared.ir.kinds.GenericArg.{GenericArg}
+use Rattle.ir_trees.specs.Syntax.Words.{ListFits, BoundsFit, names_trait}
+use Rattle.ir_trees.proofs.Growth.Made.{one_if}
 use Rattle.assembly_notation.specs.Params.{ListLacks, BoundsLack}
 use Rattle.assembly_notation.proofs.types.Scope.+types.Given as goal
 

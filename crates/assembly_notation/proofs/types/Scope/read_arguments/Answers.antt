@@ -1,4 +1,4 @@
-use Rattle.candidate_ir.proofs.Growth.Kept.{grows-trans}
+use Rattle.ir_trees.proofs.Growth.Kept.{grows-trans}
 use Rattle.assembly_notation.proofs.types.Scope.read_arguments.Goals as goal
 
 pub returns-in_err-args-clause-grows : goal.returns-in_err-args-clause-grows

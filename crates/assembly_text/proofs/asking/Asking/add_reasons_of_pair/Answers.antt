@@ -1,6 +1,6 @@
 use Rattle.std.proofs.Common.{Result, OnOk, subst}
 use Rattle.std.specs.Prelude.{string_bytes}
-use Rattle.candidate_ir.specs.declared.ir.stop.Stop.{Stop}
+use Rattle.ir_trees.specs.declared.ir.stop.Stop.{Stop}
 use Rattle.assembly_text.specs.Reasons.{AddsMore}
 use Rattle.assembly_text.proofs.Adding.{more-made}
 use Rattle.assembly_text.proofs.asking.Asking.add_reasons_of_pair.Goals as goal

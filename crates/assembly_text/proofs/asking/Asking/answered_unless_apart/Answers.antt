@@ -1,7 +1,7 @@
 use Rattle.std.proofs.Common.{◌≡◌, ◌++◌, Ok, false, true, ap, rules, subst, sym, ◌∙◌}
 use Rattle.std.specs.Prelude.{string_bytes}
-use Rattle.candidate_ir.specs.Declarations.Context.{Context}
-use Rattle.candidate_ir.proofs.Growth.Kept.{args-kept}
+use Rattle.ir_trees.specs.Declarations.Context.{Context}
+use Rattle.ir_trees.proofs.Growth.Kept.{args-kept}
 use Rattle.assembly_notation.specs.declared.given.Given.{Given}
 use Rattle.assembly_text.specs.Negating.{AddsUnlessNegated, adds_apart, adds_instance, adds_negation}
 use Rattle.assembly_text.specs.Overlapping.{AddsInstance}

@@ -1,7 +1,7 @@
 use Rattle.std.proofs.Common.{ap, subst, sym}
 use Rattle.std.specs.Prelude.{string_bytes}
-use Rattle.candidate_ir.specs.Declarations.Context.{Context}
-use Rattle.candidate_ir.proofs.Growth.Kept.{args-kept}
+use Rattle.ir_trees.specs.Declarations.Context.{Context}
+use Rattle.ir_trees.proofs.Growth.Kept.{args-kept}
 use Rattle.assembly_text.specs.Negating.{AddsNegation}
 use Rattle.assembly_text.specs.Specializing.{IsNegationAnswered}
 use Rattle.assembly_text.proofs.Answered.{printed-as}

@@ -1,6 +1,6 @@
 use Rattle.std.proofs.Common.{subst}
 use Rattle.std.specs.Prelude.{string_bytes}
-use Rattle.candidate_ir.proofs.Growth.Kept.{grows-trans}
+use Rattle.ir_trees.proofs.Growth.Kept.{grows-trans}
 use Rattle.assembly_text.specs.Normalizing.{AddsNormalWords}
 use Rattle.assembly_text.proofs.Answered.{printed-as}
 use Rattle.assembly_text.proofs.asking.Asking.answered_with_normal.Goals as goal

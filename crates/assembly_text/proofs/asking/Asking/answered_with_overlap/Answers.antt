@@ -1,7 +1,7 @@
 use Rattle.std.proofs.lemmas.Result.{IfOk-weaker}
 use Rattle.std.proofs.Common.{◌≡◌, None, Ok, ap, rules, subst, sym}
 use Rattle.std.specs.Prelude.{string_bytes}
-use Rattle.candidate_ir.specs.Declarations.Context.{Context}
+use Rattle.ir_trees.specs.Declarations.Context.{Context}
 use Rattle.assembly_notation.specs.declared.given.Given.{Given}
 use Rattle.overlaps.specs.declared.overlap.Overlap.TheVariants as O
 use Rattle.assembly_text.specs.Negating.{AddsUnlessApart, IsDecided, adds_answer, adds_unless_apart}

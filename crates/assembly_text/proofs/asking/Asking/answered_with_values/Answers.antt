@@ -1,6 +1,6 @@
 use Rattle.std.proofs.Common.{ap, subst, sym}
 use Rattle.std.specs.Prelude.{string_bytes}
-use Rattle.candidate_ir.specs.Declarations.Context.{Context}
+use Rattle.ir_trees.specs.Declarations.Context.{Context}
 use Rattle.assembly_text.specs.Printing.{AddsVerdict}
 use Rattle.assembly_text.specs.Solving.{IsSolvedBefore}
 use Rattle.assembly_text.proofs.Answered.{printed-as}

@@ -1,6 +1,6 @@
 use Rattle.std.proofs.Common.{◌≡◌, ◌∙◌, ◌++◌, OnOk, ap, subst, sym}
 use Rattle.std.specs.Prelude.{string_bytes}
-use Rattle.candidate_ir.specs.Declarations.Context.{Grows}
+use Rattle.ir_trees.specs.Declarations.Context.{Grows}
 use Rattle.candidate_eval.specs.Knowability.Answers.{AreAnswerTypes, answer_of}
 use Rattle.assembly_text.specs.Checking.{AddsFailure, lint_text, orphan_text}
 use Rattle.assembly_text.specs.Printing.{AddsAnswer}

@@ -1,6 +1,6 @@
 use Rattle.std.proofs.Common.{◌≡◌, ◌∙◌, ◌++◌, ℕ, List, OnOk, ap, false, refl, subst, sym}
 use Rattle.std.specs.Prelude.{string_bytes}
-use Rattle.candidate_ir.specs.Declarations.Context.{Grows}
+use Rattle.ir_trees.specs.Declarations.Context.{Grows}
 use Rattle.candidate_eval.specs.Knowability.Answers.{AreAnswerTypes, answer_of}
 use Rattle.candidate_eval.specs.declared.coherence.InCrate.TheVariants.{Local}
 use Rattle.candidate_eval.specs.declared.coherence.OrphanCheckMode.TheVariants.{Compat}
@@ -9,8 +9,8 @@ use Rattle.assembly_notation.specs.declared.names.Names.{Names}
 use Rattle.assembly_text.specs.Checking.{AddsFailure, AddsOfRefused, SaysOfImpl, not_asked, orphan_text}
 use Rattle.assembly_text.proofs.Checked.{adds-passing, adds-refused, adds-stop, plain-check-kept}
 use Rattle.assembly_text.proofs.Finding.{adds-nothing, stays-refl, stays-then}
-use Rattle.candidate_ir.specs.Syntax.Trees.{Forest, holds, is_param}
-use Rattle.candidate_ir.proofs.Growth.Kept.{args-kept, grows-refl, header-kept}
+use Rattle.ir_trees.specs.Syntax.Trees.{Forest, holds, is_param}
+use Rattle.ir_trees.proofs.Growth.Kept.{args-kept, grows-refl, header-kept}
 use Rattle.assembly_text.proofs.asking.Asking.check_header.Goals as goal
 
 pub returns-then-not-may_be_orphan-clause-stays : goal.returns-then-not-may_be_orphan-clause-stays

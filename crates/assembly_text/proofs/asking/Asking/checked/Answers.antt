@@ -1,7 +1,7 @@
 use Rattle.std.proofs.Common.{rules}
 use Rattle.std.proofs.Common.{refl, sym, ◌∙◌, ap}
-use Rattle.candidate_ir.specs.Declarations.Context.{world}
-use Rattle.candidate_ir.specs.Syntax.Words.{args_forest}
+use Rattle.ir_trees.specs.Declarations.Context.{world}
+use Rattle.ir_trees.specs.Syntax.Words.{args_forest}
 use Rattle.candidate_eval.specs.Knowability.Orphan.{plain, bare_answer}
 use Rattle.candidate_eval.proofs.Knowability.Lowering.{plain_answer}
 use Rattle.candidate_eval.specs.Knowability.Normalizer.{exactly, refused_growth}

@@ -1,7 +1,7 @@
 use Rattle.std.proofs.Common.{◌≡◌, Err, IfErr, IfOk, Ok, false, true, refl, rules, subst, sym, ◌∙◌}
 use Rattle.std.proofs.lemmas.Result.{IfOk-weaker}
 use Rattle.std.specs.Prelude.{IfSome}
-use Rattle.candidate_ir.proofs.Growth.Kept.{grows-refl, grows-trans}
+use Rattle.ir_trees.proofs.Growth.Kept.{grows-refl, grows-trans}
 use Rattle.candidate_assembly.proofs.Calls.Causes.{so-err}
 use Rattle.assembly_notation.specs.declared.given.Given.{Given}
 use Rattle.overlaps.specs.declared.overlap.Overlap.TheVariants as O

@@ -1,5 +1,5 @@
 use Rattle.std.proofs.Common.{◌≡◌, Err, Ok, rules, subst}
-use Rattle.candidate_ir.proofs.Growth.Kept.{grows-refl}
+use Rattle.ir_trees.proofs.Growth.Kept.{grows-refl}
 use Rattle.assembly_text.specs.Specializing.{IsTested, test_stopped_there}
 use Rattle.assembly_text.proofs.Compared.{err-value, ok-value}
 use Rattle.assembly_text.proofs.asking.Asking.is_special.Goals as goal

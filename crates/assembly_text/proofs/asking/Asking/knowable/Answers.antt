@@ -1,6 +1,6 @@
 use Rattle.std.proofs.Common.{◌≡◌, ℕ, List, [], OnOk, ap, subst, sym, ◌∙◌}
 use Rattle.std.specs.Prelude.{string_bytes}
-use Rattle.candidate_ir.specs.Declarations.Context.{Context, Grows}
+use Rattle.ir_trees.specs.Declarations.Context.{Context, Grows}
 use Rattle.assembly_text.specs.Asking.{AddsSomeKnown}
 use Rattle.assembly_text.proofs.Answered.{known-printed}
 use Rattle.assembly_text.proofs.asking.Asking.knowable.Goals as goal

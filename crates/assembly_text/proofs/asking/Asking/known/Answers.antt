@@ -1,7 +1,7 @@
 use Rattle.std.proofs.Common.{rules}
 use Rattle.std.proofs.Common.{refl, sym, ◌∙◌, ap}
-use Rattle.candidate_ir.specs.Declarations.Context.{world}
-use Rattle.candidate_ir.specs.Declarations.References.{reference_of}
+use Rattle.ir_trees.specs.Declarations.Context.{world}
+use Rattle.ir_trees.specs.Declarations.References.{reference_of}
 use Rattle.candidate_eval.specs.Knowability.Orphan.{plain, bare_knowledge}
 use Rattle.candidate_eval.proofs.Knowability.Lowering.{plain_knowledge}
 use Rattle.candidate_eval.specs.Knowability.Normalizer.{exactly, refused_growth}

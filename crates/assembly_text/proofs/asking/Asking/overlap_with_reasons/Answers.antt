@@ -1,6 +1,6 @@
 use Rattle.std.proofs.Common.{Result, OnOk, subst}
 use Rattle.std.specs.Prelude.{string_bytes}
-use Rattle.candidate_ir.specs.declared.ir.stop.Stop.{Stop}
+use Rattle.ir_trees.specs.declared.ir.stop.Stop.{Stop}
 use Rattle.assembly_text.specs.Negating.{AddsOverlap}
 use Rattle.assembly_text.proofs.Negating.{on-ok-weaker}
 use Rattle.assembly_text.proofs.asking.Asking.overlap_with_reasons.Goals as goal

@@ -1,5 +1,5 @@
 use Rattle.std.proofs.Common.{IfErr, IfOk}
-use Rattle.candidate_ir.specs.Declarations.Context.{Grows}
+use Rattle.ir_trees.specs.Declarations.Context.{Grows}
 use Rattle.assembly_text.specs.Overlapping.{IsOverlapSolved, IsOverlapStopped}
 use Rattle.assembly_text.proofs.Answered.{over-all}
 use Rattle.assembly_notation.proofs.Giving.{given_declared, declared_grows}

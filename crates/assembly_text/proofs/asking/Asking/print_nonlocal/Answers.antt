@@ -1,7 +1,7 @@
 use Rattle.std.proofs.Common.{◌∙◌, refl, sym, subst, All}
 use Rattle.std.specs.Prelude.{string_bytes}
 use Rattle.std.proofs.lemmas.List.{map_more, take_all}
-use Rattle.candidate_ir.specs.Syntax.Words.{IsTy}
+use Rattle.ir_trees.specs.Syntax.Words.{IsTy}
 use Rattle.candidate_eval.specs.Knowability.Answers.{entries_of}
 use Rattle.assembly_text.proofs.Checked.{EntriesSoFar, entries-end, entry-more, no-entries}
 use Rattle.assembly_text.proofs.asking.Asking.print_nonlocal.Goals as goal

@@ -1,6 +1,6 @@
 use Rattle.std.proofs.Common.{◌≡◌, All, take}
 use Rattle.std.specs.Prelude.{string_bytes}
-use Rattle.candidate_ir.specs.Syntax.Words.{IsTy}
+use Rattle.ir_trees.specs.Syntax.Words.{IsTy}
 use Rattle.candidate_eval.specs.Knowability.Answers.{entries_of}
 use Rattle.assembly_text.proofs.Checked.{EntriesSoFar}
 use Rattle.assembly_text.proofs.asking.Asking.print_nonlocal.Given as goal

@@ -1,6 +1,6 @@
 use Rattle.std.proofs.Common.{◌≡◌, Err, None, Ok, Some, IfOk, rules, subst, true}
 use Rattle.std.proofs.lemmas.Result.{IfOk-weaker}
-use Rattle.candidate_ir.proofs.Growth.Kept.{args-kept, grows-refl}
+use Rattle.ir_trees.proofs.Growth.Kept.{args-kept, grows-refl}
 use Rattle.candidate_assembly.proofs.Calls.Causes.{so-err}
 use Rattle.assembly_notation.specs.declared.given.Given.{Given}
 use Rattle.assembly_text.specs.Specializing.{IsInstanceOr, IsPairStop, test_stopped_there}

@@ -1,4 +1,4 @@
-use Rattle.candidate_ir.proofs.Growth.Made.{IsArgs-grows}
+use Rattle.ir_trees.proofs.Growth.Made.{IsArgs-grows}
 use Rattle.assembly_text.proofs.Compared.{err-value}
 use Rattle.assembly_text.proofs.asking.Asking.unless_special.Goals as goal
 

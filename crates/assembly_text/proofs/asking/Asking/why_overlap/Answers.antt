@@ -1,6 +1,6 @@
 use Rattle.std.proofs.Common.{◌≡◌, ℕ, List, rules, subst}
 use Rattle.std.specs.Prelude.{string_bytes}
-use Rattle.candidate_ir.specs.Declarations.Context.{Context}
+use Rattle.ir_trees.specs.Declarations.Context.{Context}
 use Rattle.assembly_notation.specs.Lines.{rounds_of_line}
 use Rattle.assembly_notation.specs.declared.given.Given.{Given}
 use Rattle.assembly_text.specs.Reasons.{AddsOverlapAndMore}

@@ -1,5 +1,5 @@
 use Rattle.std.proofs.Common.{◌≡◌, ◌∙◌, arith, length, rules, subst, sym}
-use Rattle.candidate_ir.specs.declared.decl.contents.ImplId.{ImplId}
+use Rattle.ir_trees.specs.declared.decl.contents.ImplId.{ImplId}
 use Rattle.assembly_text.specs.Checking.{AddsOfImpls, AddsWithOthers, IsLength}
 use Rattle.assembly_text.proofs.Finding.{impl-more, no-impls, stays-refl, stays-then}
 use Rattle.assembly_text.proofs.Pairing.{aliases-on}

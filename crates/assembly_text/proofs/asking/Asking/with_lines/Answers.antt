@@ -1,6 +1,6 @@
 use Rattle.std.proofs.Common.{◌≡◌, ◌∙◌, ◌<◌, arith, List, Some, length, rules, slice_get, subst, sym, ap}
 use Rattle.std.proofs.lemmas.List.{get_or_read}
-use Rattle.candidate_ir.specs.declared.decl.contents.ImplId.{ImplId}
+use Rattle.ir_trees.specs.declared.decl.contents.ImplId.{ImplId}
 use Rattle.assembly_text.specs.Checking.{AddsOfLine, AddsOfLines}
 use Rattle.assembly_text.specs.Specializing.{specialized_by}
 use Rattle.assembly_text.proofs.Finding.{got-there, line-more, no-lines, stays-refl, stays-then}

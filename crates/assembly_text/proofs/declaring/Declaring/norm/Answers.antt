@@ -1,5 +1,5 @@
 use Rattle.std.proofs.Common.{refl, ◌∙◌}
-use Rattle.candidate_ir.proofs.Growth.Made.{IsTy-grows}
+use Rattle.ir_trees.proofs.Growth.Made.{IsTy-grows}
 use Rattle.assembly_notation.proofs.Giving.{alias_kept, form_given}
 use Rattle.assembly_text.proofs.declaring.Declaring.norm.Goals as goal
 

@@ -1,11 +1,11 @@
 use Rattle.std.proofs.Common.{rules, ◌≤◌, Err, List, length, map, get_or, sym, ap, ◌∙◌, subst}
 use Rattle.std.proofs.lemmas.Result.{err_from_is_err_and}
-use Rattle.candidate_ir.specs.declared.ir.heads.Head.TheVariants as Head
-use Rattle.candidate_ir.specs.declared.ir.kinds.Clause.{Clause}
-use Rattle.candidate_ir.specs.Instantiation.Folding.{substituted_tree}
-use Rattle.candidate_ir.specs.Syntax.Trees.{Tree, holds, is_param, none}
-use Rattle.candidate_ir.specs.Syntax.Words.{ClauseListFits, args_forest, clause_tree}
-use Rattle.candidate_ir.proofs.Growth.Made.{IsClause-listed}
+use Rattle.ir_trees.specs.declared.ir.heads.Head.TheVariants as Head
+use Rattle.ir_trees.specs.declared.ir.kinds.Clause.{Clause}
+use Rattle.ir_trees.specs.Instantiation.Folding.{substituted_tree}
+use Rattle.ir_trees.specs.Syntax.Trees.{Tree, holds, is_param, none}
+use Rattle.ir_trees.specs.Syntax.Words.{ClauseListFits, args_forest, clause_tree}
+use Rattle.ir_trees.proofs.Growth.Made.{IsClause-listed}
 use Rattle.candidate_eval.proofs.Interface.Probing.{made}
 use Rattle.candidate_eval.proofs.Outcomes.Responding.{clauses-kept}
 use Rattle.candidate_assembly.specs.Rules.AliasBounds.{bounds_of_kind}

@@ -1,9 +1,9 @@
 use Rattle.std.proofs.Common.{◌≡◌}
-use Rattle.candidate_ir.specs.declared.ir.kinds.TyKind.TheVariants as K
-use Rattle.candidate_ir.specs.Syntax.Nodes.{kind_at}
-use Rattle.candidate_ir.specs.Syntax.Trees.{ArgumentsKind}
-use Rattle.candidate_ir.specs.Syntax.Words.{KindFits}
-use Rattle.candidate_ir.proofs.Instantiation.Declared.{alias_fits}
+use Rattle.ir_trees.specs.declared.ir.kinds.TyKind.TheVariants as K
+use Rattle.ir_trees.specs.Syntax.Nodes.{kind_at}
+use Rattle.ir_trees.specs.Syntax.Trees.{ArgumentsKind}
+use Rattle.ir_trees.specs.Syntax.Words.{KindFits}
+use Rattle.ir_context.proofs.Instantiation.Declared.{alias_fits}
 use Rattle.candidate_eval.proofs.Builtins.Cells.{kind_takes}
 use Rattle.candidate_assembly.proofs.Aliases.AliasChains.{has-one-of}
 use Rattle.candidate_assembly.proofs.assembly.alias_chain.bounded_alias.Goals as goal

@@ -1,9 +1,9 @@
 use Rattle.std.proofs.Common.{Err, ap, refl, subst, ◌∙◌}
 use Rattle.std.proofs.lemmas.Result.{err_from_is_err_and}
-use Rattle.candidate_ir.specs.declared.ir.kinds.TyKind.TheVariants as K
-use Rattle.candidate_ir.specs.declared.ir.stop.Stop.TheVariants.{Memory}
-use Rattle.candidate_ir.specs.Validity.WellFormed.{IsWellFormedTable}
-use Rattle.candidate_ir.specs.Syntax.Words.{kind_tree}
+use Rattle.ir_trees.specs.declared.ir.kinds.TyKind.TheVariants as K
+use Rattle.ir_trees.specs.declared.ir.stop.Stop.TheVariants.{Memory}
+use Rattle.ir_trees.specs.Validity.WellFormed.{IsWellFormedTable}
+use Rattle.ir_trees.specs.Syntax.Words.{kind_tree}
 use Rattle.candidate_assembly.specs.Rules.AliasBounds.{bound_rules}
 use Rattle.candidate_assembly.proofs.Aliases.AliasChains.{additional-at, alias-kept, alias-parts, alias-parts-later, both-listed, first-stop, not-joined, second-stop}
 use Rattle.candidate_assembly.proofs.Calls.Keeping.{goal-kept}

@@ -1,6 +1,6 @@
 use Rattle.std.proofs.Common.{◌≡◌, sym, ap, subst, ◌∙◌}
-use Rattle.candidate_ir.specs.Declarations.Context.{Context}
-use Rattle.candidate_ir.specs.Syntax.Words.{ty_tree}
+use Rattle.ir_trees.specs.Declarations.Context.{Context}
+use Rattle.ir_trees.specs.Syntax.Words.{ty_tree}
 use Rattle.candidate_eval.specs.Interface.Accounts.Question.{delay}
 use Rattle.candidate_assembly.specs.Rules.AliasBounds.{end_at, variable_rule}
 use Rattle.candidate_assembly.specs.Calls.AliasChains.{as_seen}

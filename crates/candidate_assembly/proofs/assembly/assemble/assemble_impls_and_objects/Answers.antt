@@ -1,6 +1,6 @@
 use Rattle.std.proofs.Common.{ap, subst, ◌∙◌, Err}
 use Rattle.std.proofs.lemmas.Result.{err_from_is_err_and}
-use Rattle.candidate_ir.specs.Validity.WellFormed.{IsWellFormedTable}
+use Rattle.ir_trees.specs.Validity.WellFormed.{IsWellFormedTable}
 use Rattle.candidate_eval.specs.Outcomes.ResponseTrees.{candidates_of}
 use Rattle.candidate_assembly.specs.Answers.Assembled.{left_out}
 use Rattle.candidate_assembly.proofs.Lists.AssembledLists.{below-here, first-stops, goal-later, impls-stop, left-out-said, list-goes-on, moves-on, nothing-added, objects-after}

@@ -1,6 +1,6 @@
 use Rattle.std.proofs.Common.{ap, refl, subst, ◌∙◌, Err}
 use Rattle.std.proofs.lemmas.Result.{err_from_is_err_and}
-use Rattle.candidate_ir.specs.Validity.WellFormed.{IsWellFormedTable}
+use Rattle.ir_trees.specs.Validity.WellFormed.{IsWellFormedTable}
 use Rattle.candidate_assembly.proofs.Lists.AssembledLists.{below-here, first-stops, goal-later, stands-later, typed-later}
 use Rattle.candidate_assembly.proofs.Lists.KnownLists.{both-there, env-free, from-nothing, known-chain-stops, known-clause-stops, known-further, list-handed-on}
 use Rattle.candidate_assembly.proofs.assembly.assemble.assemble_known.Goals as goal

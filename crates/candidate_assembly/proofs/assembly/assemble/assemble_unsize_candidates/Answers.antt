@@ -1,6 +1,6 @@
 use Rattle.std.proofs.Common.{Err, ap, refl, ◌∙◌}
 use Rattle.std.proofs.lemmas.Result.{err_from_is_err_and}
-use Rattle.candidate_ir.specs.declared.ir.stop.Stop.TheVariants.{Memory}
+use Rattle.ir_trees.specs.declared.ir.stop.Stop.TheVariants.{Memory}
 use Rattle.candidate_eval.specs.Outcomes.ResponseTrees.{candidates_of}
 use Rattle.candidate_assembly.proofs.Lists.AssembledLists.{first-stops, item-said, list-appended, list-not-added, not-unsized, nothing-added, unsized-after, unsizing-stops}
 use Rattle.candidate_assembly.proofs.assembly.assemble.assemble_unsize_candidates.Goals as goal

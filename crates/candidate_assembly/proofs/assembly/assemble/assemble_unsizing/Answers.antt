@@ -1,6 +1,6 @@
 use Rattle.std.proofs.Common.{ap, subst, ◌∙◌, Err}
 use Rattle.std.proofs.lemmas.Result.{err_from_is_err_and}
-use Rattle.candidate_ir.specs.Validity.WellFormed.{IsWellFormedTable}
+use Rattle.ir_trees.specs.Validity.WellFormed.{IsWellFormedTable}
 use Rattle.candidate_eval.specs.Outcomes.ResponseTrees.{candidates_of}
 use Rattle.candidate_assembly.proofs.Lists.AssembledLists.{first-stops, goal-later, impls-after, list-goes-on, moves-on, stands-later, stops-unsizing}
 use Rattle.candidate_assembly.proofs.assembly.assemble.assemble_unsizing.Goals as goal

@@ -1,7 +1,7 @@
 use Rattle.std.proofs.Common.{ap, arith, ◌∙◌, ◌≡◌}
-use Rattle.candidate_ir.specs.Declarations.Context.{Context}
-use Rattle.candidate_ir.specs.Syntax.Nodes.{tree_at}
-use Rattle.candidate_ir.specs.Syntax.Trees.{binders_of}
+use Rattle.ir_trees.specs.Declarations.Context.{Context}
+use Rattle.ir_trees.specs.Syntax.Nodes.{tree_at}
+use Rattle.ir_trees.specs.Syntax.Trees.{binders_of}
 use Rattle.candidate_assembly.specs.Calls.Characterizing.{visited_at}
 use Rattle.candidate_assembly.proofs.Rules.Characterizing.{leads-later, many-groups, nothing-done, one-group}
 use Rattle.candidate_assembly.proofs.assembly.characterize.below.Goals as goal

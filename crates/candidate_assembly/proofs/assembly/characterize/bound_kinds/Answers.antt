@@ -1,11 +1,11 @@
 use Rattle.std.proofs.Common.{List, [], ap, append_assoc, arith, rules, suc, sym, ℕ, ◌++◌, ◌+◌, ◌∙◌, ◌∷◌, ◌≡◌}
-use Rattle.candidate_ir.specs.Syntax.Nodes.{tree_at}
+use Rattle.ir_trees.specs.Syntax.Nodes.{tree_at}
 use Rattle.candidate_eval.proofs.Interface.StopKinds.{child-beyond, growth_noted, wide-node}
 use Rattle.std.proofs.lemmas.List.{append-nil, map-append}
-use Rattle.candidate_ir.specs.declared.ir.kinds.VarKind.{VarKind}
-use Rattle.candidate_ir.specs.declared.ir.heads.Head.{Head}
-use Rattle.candidate_ir.specs.Declarations.Context.{parameter_kind}
-use Rattle.candidate_ir.specs.Syntax.Trees.{Forest, Kind, skip, tree}
+use Rattle.ir_trees.specs.declared.ir.kinds.VarKind.{VarKind}
+use Rattle.ir_trees.specs.declared.ir.heads.Head.{Head}
+use Rattle.ir_trees.specs.Declarations.Context.{parameter_kind}
+use Rattle.ir_trees.specs.Syntax.Trees.{Forest, Kind, skip, tree}
 use Rattle.candidate_eval.specs.Derivations.Characterization.{binder_kinds, variable_of_binder}
 use Rattle.candidate_eval.specs.Interface.Evaluators.{kinds_listed}
 use Rattle.candidate_assembly.proofs.assembly.characterize.bound_kinds.Goals.{in-Some-variable_kind+in_ok-push, in_default-variable_kind}

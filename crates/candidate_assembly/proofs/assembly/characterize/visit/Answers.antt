@@ -1,10 +1,10 @@
 use Rattle.std.proofs.Common.{ap, arith, false, ltb-false, nat_lt, refl, subst, sym, ◌+◌, ◌<◌, ◌∙◌, ◌≡◌, ◌≤◌}
-use Rattle.candidate_ir.specs.Declarations.Context.{Context}
-use Rattle.candidate_ir.specs.declared.decl.limits.Limits.{Limits}
-use Rattle.candidate_ir.specs.Syntax.Nodes.{tree_at}
-use Rattle.candidate_ir.specs.Syntax.Trees.{RegionKind, Tree}
-use Rattle.candidate_ir.specs.Syntax.Words.{env_forest, region_tree, ty_tree}
-use Rattle.candidate_ir.proofs.Syntax.Lists.{below_kind}
+use Rattle.ir_trees.specs.Declarations.Context.{Context}
+use Rattle.ir_trees.specs.declared.decl.limits.Limits.{Limits}
+use Rattle.ir_trees.specs.Syntax.Nodes.{tree_at}
+use Rattle.ir_trees.specs.Syntax.Trees.{RegionKind, Tree}
+use Rattle.ir_trees.specs.Syntax.Words.{env_forest, region_tree, ty_tree}
+use Rattle.ir_trees.proofs.Syntax.Lists.{below_kind}
 use Rattle.candidate_eval.specs.Derivations.Characterization.{in_normal_form, looked, region_seen}
 use Rattle.candidate_assembly.specs.Calls.Characterizing.{rank, visited_at}
 use Rattle.candidate_assembly.proofs.Rules.Characterizing.{constant-begins, constant-ends, depth-walk, few-later, found-here, leads-ended, leads-error, leads-later, none-refused, normal-looked, normal-refused, nothing-done, region-begins, type-begins}

@@ -1,11 +1,11 @@
 use Rattle.std.proofs.Common.{Err, None, ap, arith, false, refl, subst, ◌∙◌, ◌≡◌, ℕ}
-use Rattle.candidate_ir.specs.Declarations.Context.{Context}
-use Rattle.candidate_ir.specs.Instantiation.Folds.{is_asked}
-use Rattle.candidate_ir.specs.Instantiation.Opening.{opened_tree}
-use Rattle.candidate_ir.specs.Syntax.Kinds.{arg_number}
-use Rattle.candidate_ir.specs.Syntax.Nodes.{tree_at}
-use Rattle.candidate_ir.specs.Syntax.Trees.{Forest, Tree}
-use Rattle.candidate_ir.specs.Syntax.Words.{args_forest, env_forest}
+use Rattle.ir_trees.specs.Declarations.Context.{Context}
+use Rattle.ir_trees.specs.Instantiation.Folds.{is_asked}
+use Rattle.ir_trees.specs.Instantiation.Opening.{opened_tree}
+use Rattle.ir_trees.specs.Syntax.Kinds.{arg_number}
+use Rattle.ir_trees.specs.Syntax.Nodes.{tree_at}
+use Rattle.ir_trees.specs.Syntax.Trees.{Forest, Tree}
+use Rattle.ir_trees.specs.Syntax.Words.{args_forest, env_forest}
 use Rattle.candidate_eval.specs.declared.eval.refusal.NoSolutionOrStop.TheVariants as N
 use Rattle.candidate_eval.specs.Interface.Unmade.AreValues.{members}
 use Rattle.candidate_eval.specs.Interface.Unmade.IsMade.{under_binder}
@@ -14,7 +14,7 @@ use Rattle.candidate_eval.proofs.Dynamic.Objects.{env-kept}
 use Rattle.candidate_eval.proofs.Interface.Probing.{made}
 use Rattle.candidate_assembly.specs.Calls.Characterizing.{Leads, rank}
 use Rattle.candidate_assembly.proofs.Rules.Characterizing.{few-later, found-here, later-visit, leads-error, leads-later, making-walk, nothing-done, unasked-opened, visits}
-use Rattle.candidate_ir.proofs.Growth.Kept.{grows-refl}
+use Rattle.ir_trees.proofs.Growth.Kept.{grows-refl}
 use Rattle.candidate_assembly.proofs.assembly.characterize.visit_opened.Goals as goal
 
 pub returns-in_default : goal.returns-in_default

@@ -1,9 +1,9 @@
 use Rattle.std.proofs.Common.{None, ap, arith, false, subst, sym, ◌∙◌, ◌≡◌, ℕ}
-use Rattle.candidate_ir.specs.declared.ir.heads.Head.TheVariants as H
-use Rattle.candidate_ir.specs.Declarations.Context.{Context}
-use Rattle.candidate_ir.specs.Instantiation.Folds.{is_asked}
-use Rattle.candidate_ir.specs.Syntax.Nodes.{tree_at}
-use Rattle.candidate_ir.specs.Syntax.Words.{env_forest}
+use Rattle.ir_trees.specs.declared.ir.heads.Head.TheVariants as H
+use Rattle.ir_trees.specs.Declarations.Context.{Context}
+use Rattle.ir_trees.specs.Instantiation.Folds.{is_asked}
+use Rattle.ir_trees.specs.Syntax.Nodes.{tree_at}
+use Rattle.ir_trees.specs.Syntax.Words.{env_forest}
 use Rattle.candidate_assembly.specs.Calls.Characterizing.{visited_at}
 use Rattle.candidate_assembly.proofs.Rules.Characterizing.{a-part, found-here, leads-later, no-part, nothing-done, unasked}
 use Rattle.candidate_assembly.proofs.assembly.characterize.visit_part.Goals as goal

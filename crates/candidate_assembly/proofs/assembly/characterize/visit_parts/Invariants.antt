@@ -1,5 +1,5 @@
 use Rattle.std.proofs.Common.{◌+◌}
-use Rattle.candidate_ir.specs.Syntax.Words.{env_forest}
+use Rattle.ir_trees.specs.Syntax.Words.{env_forest}
 use Rattle.candidate_assembly.specs.Calls.Characterizing.{parts_visited}
 use Rattle.candidate_assembly.proofs.Rules.PartsVisited.{AreVisited, left_of, left_of_all}
 use Rattle.candidate_assembly.proofs.assembly.characterize.visit_parts.Given as goal

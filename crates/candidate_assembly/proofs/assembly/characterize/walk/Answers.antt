@@ -1,9 +1,9 @@
 use Rattle.std.proofs.Common.{◌∙◌, ◌≡◌, ap, arith, sym}
-use Rattle.candidate_ir.specs.Declarations.Context.{Context}
-use Rattle.candidate_ir.specs.Syntax.Nodes.{tree_at}
-use Rattle.candidate_ir.specs.Instantiation.Opening.{opened}
-use Rattle.candidate_ir.specs.Syntax.Trees.{Forest, skip, tree_holds}
-use Rattle.candidate_ir.specs.Syntax.Words.{args_forest, clause_tree, env_forest}
+use Rattle.ir_trees.specs.Declarations.Context.{Context}
+use Rattle.ir_trees.specs.Syntax.Nodes.{tree_at}
+use Rattle.ir_trees.specs.Instantiation.Opening.{opened}
+use Rattle.ir_trees.specs.Syntax.Trees.{Forest, skip, tree_holds}
+use Rattle.ir_trees.specs.Syntax.Words.{args_forest, clause_tree, env_forest}
 use Rattle.candidate_eval.specs.Derivations.Characterization.{each, is_any_bound}
 use Rattle.candidate_eval.proofs.Dynamic.Objects.{env-kept}
 use Rattle.candidate_assembly.specs.Calls.Characterizing.{visited_at}

@@ -1,9 +1,9 @@
 use Rattle.std.proofs.Common.{◌≡◌, sym, ◌∙◌, ap, subst}
-use Rattle.candidate_ir.specs.declared.ir.kinds.ClauseKind.{ClauseKind}
-use Rattle.candidate_ir.specs.Declarations.Context.{Context, world}
-use Rattle.candidate_ir.specs.Declarations.References.{IsWellFormed, Takes}
-use Rattle.candidate_ir.specs.Syntax.Words.{ClauseFits, PredFits, clause_kind_tree, pred_kind_tree, pred_tree, ty_tree}
-use Rattle.candidate_ir.proofs.Growth.Kept.{grows-trans}
+use Rattle.ir_trees.specs.declared.ir.kinds.ClauseKind.{ClauseKind}
+use Rattle.ir_trees.specs.Declarations.Context.{Context, world}
+use Rattle.ir_trees.specs.Declarations.References.{IsWellFormed, Takes}
+use Rattle.ir_trees.specs.Syntax.Words.{ClauseFits, PredFits, clause_kind_tree, pred_kind_tree, pred_tree, ty_tree}
+use Rattle.ir_trees.proofs.Growth.Kept.{grows-trans}
 use Rattle.candidate_assembly.specs.Rules.DynBounds.{bound_said}
 use Rattle.candidate_assembly.proofs.Objects.BoundClauses.{bound-takes, list-made, said-fits, said-takes, said-tree}
 use Rattle.candidate_assembly.proofs.Calls.Causes.{so-err, so-ok}

@@ -1,4 +1,4 @@
-use Rattle.candidate_ir.specs.Syntax.Words.{ty_tree}
+use Rattle.ir_trees.specs.Syntax.Words.{ty_tree}
 use Rattle.candidate_assembly.proofs.Objects.BoundClauses.{dyn-bounds, dyn-region}
 use Rattle.candidate_assembly.proofs.assembly.dyn_bounds.dyn_parts.Goals as goal
 

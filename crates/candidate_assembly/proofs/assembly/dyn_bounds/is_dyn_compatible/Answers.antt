@@ -1,5 +1,5 @@
 use Rattle.std.proofs.Common.{ap, sym, ◌∙◌}
-use Rattle.candidate_ir.specs.Syntax.Words.{ty_tree}
+use Rattle.ir_trees.specs.Syntax.Words.{ty_tree}
 use Rattle.candidate_assembly.specs.Rules.BuiltinRules.{is_set}
 use Rattle.candidate_assembly.proofs.Objects.BoundClauses.{compatible-is, compatible-with, no-principal}
 use Rattle.candidate_assembly.proofs.assembly.dyn_bounds.is_dyn_compatible.Goals as goal

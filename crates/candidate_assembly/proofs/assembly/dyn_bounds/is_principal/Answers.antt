@@ -1,6 +1,6 @@
 use Rattle.std.proofs.Common.{refl}
-use Rattle.candidate_ir.specs.Syntax.Trees.{PredicateKind}
-use Rattle.candidate_ir.proofs.Syntax.Lists.{below_kind}
+use Rattle.ir_trees.specs.Syntax.Trees.{PredicateKind}
+use Rattle.ir_trees.proofs.Syntax.Lists.{below_kind}
 use Rattle.candidate_assembly.proofs.assembly.dyn_bounds.is_principal.Goals as goal
 
 pub head-requires : goal.head-requires

@@ -1,7 +1,7 @@
 use Rattle.std.proofs.Common.{rules, ◌≤◌, length, refl, sym, ◌∙◌}
 use Rattle.std.proofs.lemmas.List.Elements.{All-get_or}
-use Rattle.candidate_ir.specs.declared.ir.kinds.Pred.{Pred}
-use Rattle.candidate_ir.specs.Syntax.Words.{IsPred}
+use Rattle.ir_trees.specs.declared.ir.kinds.Pred.{Pred}
+use Rattle.ir_trees.specs.Syntax.Words.{IsPred}
 use Rattle.candidate_assembly.proofs.Objects.ObjectClauses.{principal-found, principal-later, principal-missing}
 use Rattle.candidate_assembly.proofs.assembly.dyn_bounds.principal_among.Goals as goal
 

@@ -1,6 +1,6 @@
 use Rattle.std.proofs.Common.{◌≡◌, map}
 use Rattle.std.proofs.Math.ListN.{drop}
-use Rattle.candidate_ir.specs.Syntax.Words.{pred_tree}
+use Rattle.ir_trees.specs.Syntax.Words.{pred_tree}
 use Rattle.candidate_assembly.proofs.Objects.ObjectClauses.{principal-among}
 use Rattle.candidate_assembly.proofs.assembly.dyn_bounds.principal_among.Given as goal
 

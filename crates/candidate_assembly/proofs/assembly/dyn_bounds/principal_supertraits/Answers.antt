@@ -1,9 +1,9 @@
 use Rattle.std.proofs.Common.{None, Some, [], ap, map, subst, ◌∷◌}
 use Rattle.std.proofs.lemmas.Result.{err_from_is_err_and}
-use Rattle.candidate_ir.specs.Declarations.Context.{Context}
-use Rattle.candidate_ir.specs.Validity.WellFormed.{IsWellFormedTable}
-use Rattle.candidate_ir.specs.Syntax.Words.{clause_tree, pred_tree, ty_tree}
-use Rattle.candidate_ir.proofs.Growth.Kept.{grows-trans}
+use Rattle.ir_trees.specs.Declarations.Context.{Context}
+use Rattle.ir_trees.specs.Validity.WellFormed.{IsWellFormedTable}
+use Rattle.ir_trees.specs.Syntax.Words.{clause_tree, pred_tree, ty_tree}
+use Rattle.ir_trees.proofs.Growth.Kept.{grows-trans}
 use Rattle.candidate_assembly.proofs.Unsizing.ToDyn.{no-some}
 use Rattle.candidate_assembly.proofs.Upcasting.UpcastParts.{no-supers-are, principal-found, principal-stands, supers-are, supers-stand}
 use Rattle.candidate_eval.specs.Interface.Unmade.IsUnmade.{of_elaboration}

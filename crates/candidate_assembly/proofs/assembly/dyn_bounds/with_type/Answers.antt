@@ -1,5 +1,5 @@
 use Rattle.std.proofs.Common.{rules, ◌≡◌, ◌∷◌}
-use Rattle.candidate_ir.specs.declared.ir.kinds.GenericArg.TheVariants as G
+use Rattle.ir_trees.specs.declared.ir.kinds.GenericArg.TheVariants as G
 use Rattle.candidate_assembly.proofs.Objects.BoundClauses.{type-before}
 use Rattle.candidate_assembly.proofs.assembly.dyn_bounds.with_type.Goals as goal
 

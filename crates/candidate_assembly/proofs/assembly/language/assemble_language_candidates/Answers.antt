@@ -1,5 +1,5 @@
 use Rattle.std.proofs.Common.{◌≡◌, List, None, Some, Ok, ap, subst}
-use Rattle.candidate_ir.specs.Declarations.Context.{Context}
+use Rattle.ir_trees.specs.Declarations.Context.{Context}
 use Rattle.candidate_eval.specs.Derivations.Rules.{Rule}
 use Rattle.candidate_assembly.specs.Answers.Assembled.{named_rules, rule_name}
 use Rattle.candidate_assembly.specs.Rules.Language.{rule_named}

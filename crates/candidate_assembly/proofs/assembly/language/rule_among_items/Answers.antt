@@ -1,5 +1,5 @@
-use Rattle.candidate_ir.specs.declared.decl.contents.LangItem.TheVariants as L
-use Rattle.candidate_ir.specs.Validity.Faults.{all_items}
+use Rattle.ir_trees.specs.declared.decl.contents.LangItem.TheVariants as L
+use Rattle.ir_trees.specs.Validity.Faults.{all_items}
 use Rattle.candidate_assembly.specs.Answers.Assembled.{rule_among}
 use Rattle.candidate_assembly.specs.Rules.Language.{rule_named}
 use Rattle.candidate_assembly.proofs.Rules.LanguageRules.{item-found, item-passed, items-ended}

@@ -1,6 +1,6 @@
 use Rattle.std.proofs.Common.{◌≡◌}
 use Rattle.std.proofs.Math.ListN.{drop}
-use Rattle.candidate_ir.specs.Validity.Faults.{all_items}
+use Rattle.ir_trees.specs.Validity.Faults.{all_items}
 use Rattle.candidate_assembly.specs.Answers.Assembled.{rule_among}
 use Rattle.candidate_assembly.proofs.assembly.language.rule_among_items.Given as goal
 

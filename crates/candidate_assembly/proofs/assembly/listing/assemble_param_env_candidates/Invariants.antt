@@ -1,5 +1,5 @@
 use Rattle.std.proofs.Common.{map, take}
-use Rattle.candidate_ir.specs.Syntax.Words.{clause_tree}
+use Rattle.ir_trees.specs.Syntax.Words.{clause_tree}
 use Rattle.candidate_assembly.specs.Answers.Assembled.{where_rule}
 use Rattle.candidate_assembly.proofs.Lists.Listing.{ListedSoFar}
 use Rattle.candidate_assembly.proofs.assembly.listing.assemble_param_env_candidates.Given as goal

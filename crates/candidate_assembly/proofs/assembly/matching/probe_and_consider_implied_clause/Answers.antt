@@ -1,5 +1,5 @@
 use Rattle.std.proofs.Common.{rules, Option, subst, sym, ap, ◌∙◌}
-use Rattle.candidate_ir.specs.Syntax.Words.{IsParamEnv, clause_tree}
+use Rattle.ir_trees.specs.Syntax.Words.{IsParamEnv, clause_tree}
 use Rattle.candidate_eval.specs.declared.eval.certainty.Certainty.TheVariants.{Yes}
 use Rattle.candidate_eval.specs.Derivations.Judging.{comes_to, run, start}
 use Rattle.candidate_eval.specs.Interface.Evaluators.{Keeps}

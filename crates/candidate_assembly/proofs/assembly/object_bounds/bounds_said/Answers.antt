@@ -1,10 +1,10 @@
 use Rattle.std.proofs.Common.{rules, ◌≡◌, ◌≤◌, length, get_or, map, refl, sym, ap, subst, ◌∙◌}
-use Rattle.candidate_ir.specs.declared.ir.kinds.Pred.{Pred}
-use Rattle.candidate_ir.specs.Declarations.Context.{Context}
-use Rattle.candidate_ir.specs.Syntax.Trees.{Tree}
-use Rattle.candidate_ir.specs.Syntax.Words.{IsPred, clause_tree, pred_tree, ty_tree}
-use Rattle.candidate_ir.proofs.Growth.Kept.{grows-trans, ty-kept}
-use Rattle.candidate_ir.proofs.Growth.Made.{IsPred-listed}
+use Rattle.ir_trees.specs.declared.ir.kinds.Pred.{Pred}
+use Rattle.ir_trees.specs.Declarations.Context.{Context}
+use Rattle.ir_trees.specs.Syntax.Trees.{Tree}
+use Rattle.ir_trees.specs.Syntax.Words.{IsPred, clause_tree, pred_tree, ty_tree}
+use Rattle.ir_trees.proofs.Growth.Kept.{grows-trans, ty-kept}
+use Rattle.ir_trees.proofs.Growth.Made.{IsPred-listed}
 use Rattle.candidate_assembly.specs.Rules.DynBounds.{is_principal}
 use Rattle.candidate_assembly.proofs.Objects.ObjectClauses.{all-said, none-said, one-said, pred-kept, principal-passed, said-before}
 use Rattle.candidate_assembly.proofs.assembly.object_bounds.bounds_said.Goals as goal

@@ -1,5 +1,5 @@
 use Rattle.std.proofs.Common.{◌≡◌, map}
-use Rattle.candidate_ir.specs.Syntax.Words.{pred_tree, ty_tree}
+use Rattle.ir_trees.specs.Syntax.Words.{pred_tree, ty_tree}
 use Rattle.candidate_assembly.proofs.Objects.ObjectClauses.{SaidSoFar}
 use Rattle.candidate_assembly.proofs.assembly.object_bounds.bounds_said.Given as goal
 

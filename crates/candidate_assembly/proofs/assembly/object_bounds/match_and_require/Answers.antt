@@ -1,9 +1,9 @@
 use Rattle.std.proofs.Common.{rules, subst, sym, ap, ◌∙◌}
-use Rattle.candidate_ir.specs.Declarations.Context.{Context}
-use Rattle.candidate_ir.specs.Declarations.References.{Takes}
-use Rattle.candidate_ir.specs.Declarations.Context.{world}
-use Rattle.candidate_ir.specs.Validity.WellFormed.{IsWellFormedTable}
-use Rattle.candidate_ir.specs.Syntax.Words.{ClauseFits, IsParamEnv, IsPreds, clause_kind_tree, clause_tree, env_forest, preds_forest}
+use Rattle.ir_trees.specs.Declarations.Context.{Context}
+use Rattle.ir_trees.specs.Declarations.References.{Takes}
+use Rattle.ir_trees.specs.Declarations.Context.{world}
+use Rattle.ir_trees.specs.Validity.WellFormed.{IsWellFormedTable}
+use Rattle.ir_trees.specs.Syntax.Words.{ClauseFits, IsParamEnv, IsPreds, clause_kind_tree, clause_tree, env_forest, preds_forest}
 use Rattle.candidate_eval.specs.Builtins.Callable.{all_but_last}
 use Rattle.candidate_eval.specs.Derivations.Judging.{run, start}
 use Rattle.candidate_eval.specs.Dynamic.ObjectRequirements.{reference_clause}

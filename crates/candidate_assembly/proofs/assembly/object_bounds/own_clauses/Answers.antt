@@ -1,7 +1,7 @@
 use Rattle.std.proofs.Common.{subst, sym, ◌∙◌}
-use Rattle.candidate_ir.specs.Validity.WellFormed.{IsWellFormedTable}
-use Rattle.candidate_ir.proofs.Growth.Kept.{grows-trans, ty-kept}
-use Rattle.candidate_ir.proofs.Growth.Made.{IsPred-listed}
+use Rattle.ir_trees.specs.Validity.WellFormed.{IsWellFormedTable}
+use Rattle.ir_trees.proofs.Growth.Kept.{grows-trans, ty-kept}
+use Rattle.ir_trees.proofs.Growth.Made.{IsPred-listed}
 use Rattle.candidate_assembly.proofs.Objects.ObjectClauses.{pred-list-kept}
 use Rattle.candidate_assembly.proofs.Objects.ObjectPlain.{bounds-of, own-clauses-are}
 use Rattle.std.proofs.lemmas.Result.{err_from_is_err_and}

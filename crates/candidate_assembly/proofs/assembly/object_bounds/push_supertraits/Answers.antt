@@ -1,5 +1,5 @@
 use Rattle.std.proofs.Common.{arith, ◌≤◌, ◌++◌, length, refl}
-use Rattle.candidate_ir.specs.declared.ir.kinds.Clause.{Clause}
+use Rattle.ir_trees.specs.declared.ir.kinds.Clause.{Clause}
 use Rattle.candidate_assembly.specs.Calls.ObjectCalls.{numbered_from}
 use Rattle.candidate_assembly.proofs.Objects.ObjectClauses.{all-numbered, one-numbered}
 use Rattle.candidate_assembly.proofs.assembly.object_bounds.push_supertraits.Goals as goal

@@ -1,7 +1,7 @@
 use Rattle.std.proofs.Common.{ap, subst, refl, ◌∙◌}
 use Rattle.std.proofs.lemmas.Result.{err_from_is_err_and}
-use Rattle.candidate_ir.specs.declared.ir.kinds.GoalSource.TheVariants.{ImplWhereBound}
-use Rattle.candidate_ir.specs.Syntax.Words.{clause_kind_tree, env_forest, preds_forest}
+use Rattle.ir_trees.specs.declared.ir.kinds.GoalSource.TheVariants.{ImplWhereBound}
+use Rattle.ir_trees.specs.Syntax.Words.{clause_kind_tree, env_forest, preds_forest}
 use Rattle.candidate_eval.specs.Interface.Accounts.{StopsSomehow}
 use Rattle.candidate_eval.specs.Interface.Evaluators.{with_goals_of}
 use Rattle.candidate_eval.specs.Dynamic.ObjectRequirements.{reference_clause}

@@ -1,8 +1,8 @@
 use Rattle.std.proofs.Common.{◌∙◌, List, ap, map, subst, sym}
-use Rattle.candidate_ir.specs.declared.ir.kinds.Clause.{Clause}
-use Rattle.candidate_ir.specs.Syntax.Trees.{Tree, is_alias}
-use Rattle.candidate_ir.specs.Syntax.Words.{ClauseListFits, clause_tree, ty_tree}
-use Rattle.candidate_ir.proofs.Growth.Kept.{grows-trans, ty-kept}
+use Rattle.ir_trees.specs.declared.ir.kinds.Clause.{Clause}
+use Rattle.ir_trees.specs.Syntax.Trees.{Tree, is_alias}
+use Rattle.ir_trees.specs.Syntax.Words.{ClauseListFits, clause_tree, ty_tree}
+use Rattle.ir_trees.proofs.Growth.Kept.{grows-trans, ty-kept}
 use Rattle.candidate_eval.proofs.Outcomes.Responding.{clauses-kept}
 use Rattle.candidate_assembly.specs.Rules.Opaques.{with_type_for}
 use Rattle.candidate_assembly.proofs.Aliases.AliasChains.{alias-kept}
@@ -10,7 +10,7 @@ use Rattle.candidate_assembly.proofs.Calls.Causes.{so-err, so-ok}
 use Rattle.candidate_assembly.proofs.Opaques.SaidBounds.{alias-fits, alias-takes, said-is}
 use Rattle.std.proofs.lemmas.Result.{err_from_is_err_and}
 use Rattle.candidate_eval.proofs.Interface.Unmade.{type-unmade, unmade-before}
-use Rattle.candidate_ir.specs.declared.ir.kinds.TyKind.TheVariants as TK
+use Rattle.ir_trees.specs.declared.ir.kinds.TyKind.TheVariants as TK
 use Rattle.candidate_assembly.proofs.assembly.opaques.bounds_said.Goals as goal
 
 pub bounds_with_arguments-requires-clause-args : goal.bounds_with_arguments-requires-clause-args

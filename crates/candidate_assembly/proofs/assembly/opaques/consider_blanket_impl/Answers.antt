@@ -1,8 +1,8 @@
 use Rattle.std.proofs.Common.{rules, ◌≡◌, false, refl, sym, ap, subst, ◌∙◌}
-use Rattle.candidate_ir.specs.Declarations.Context.{Context}
-use Rattle.candidate_ir.specs.Syntax.Trees.{Tree, is_param, tree_holds}
-use Rattle.candidate_ir.specs.Syntax.Words.{IsTy, ty_tree}
-use Rattle.candidate_ir.proofs.Growth.Kept.{ty-kept}
+use Rattle.ir_trees.specs.Declarations.Context.{Context}
+use Rattle.ir_trees.specs.Syntax.Trees.{Tree, is_param, tree_holds}
+use Rattle.ir_trees.specs.Syntax.Words.{IsTy, ty_tree}
+use Rattle.ir_trees.proofs.Growth.Kept.{ty-kept}
 use Rattle.candidate_eval.specs.declared.eval.source.CandidateSource.TheVariants.{Impl}
 use Rattle.candidate_eval.specs.Outcomes.Certainties.{AMBIGUOUS, certainty_and}
 use Rattle.candidate_eval.specs.Derivations.Judging.{judged, run, start}

@@ -1,6 +1,6 @@
 use Rattle.std.proofs.Common.{map, take}
-use Rattle.candidate_ir.specs.declared.ir.kinds.Clause.{Clause}
-use Rattle.candidate_ir.specs.Syntax.Words.{clause_tree}
+use Rattle.ir_trees.specs.declared.ir.kinds.Clause.{Clause}
+use Rattle.ir_trees.specs.Syntax.Words.{clause_tree}
 use Rattle.candidate_assembly.specs.Rules.Opaques.{ambiguous_rule}
 use Rattle.candidate_assembly.proofs.Lists.Listing.{ListedSoFar}
 use Rattle.candidate_assembly.proofs.assembly.opaques.consider_opaque_bounds.Given as goal

@@ -1,12 +1,12 @@
 use Rattle.std.proofs.Common.{◌≡◌, Err, ap, false, get_or, length, map, refl, subst, sym, ◌∙◌}
 use Rattle.std.specs.List.{flat_map}
 use Rattle.std.proofs.lemmas.Result.{err_from_is_err_and}
-use Rattle.candidate_ir.specs.declared.ir.kinds.Clause.{Clause}
-use Rattle.candidate_ir.specs.Declarations.Context.{Context}
-use Rattle.candidate_ir.specs.Syntax.Trees.{Tree, holds, is_param}
-use Rattle.candidate_ir.specs.Validity.WellFormed.{IsWellFormedTable}
-use Rattle.candidate_ir.specs.Unification.Substitutions.{alone}
-use Rattle.candidate_ir.specs.Syntax.Words.{ClauseListFits, IsTy, clause_tree, ty_tree}
+use Rattle.ir_trees.specs.declared.ir.kinds.Clause.{Clause}
+use Rattle.ir_trees.specs.Declarations.Context.{Context}
+use Rattle.ir_trees.specs.Syntax.Trees.{Tree, holds, is_param}
+use Rattle.ir_trees.specs.Validity.WellFormed.{IsWellFormedTable}
+use Rattle.ir_trees.specs.Unification.Substitutions.{alone}
+use Rattle.ir_trees.specs.Syntax.Words.{ClauseListFits, IsTy, clause_tree, ty_tree}
 use Rattle.candidate_eval.specs.Interface.Evaluators.{alias_trees}
 use Rattle.candidate_eval.specs.Derivations.Mentions.{IsBelow, is_from}
 use Rattle.candidate_eval.specs.Judges.States.{State}

@@ -1,6 +1,6 @@
 use Rattle.std.proofs.Common.{true, Err, ap, refl, ◌∙◌}
 use Rattle.std.proofs.lemmas.Result.{err_from_is_err_and}
-use Rattle.candidate_ir.specs.Syntax.Words.{env_forest}
+use Rattle.ir_trees.specs.Syntax.Words.{env_forest}
 use Rattle.candidate_eval.specs.declared.eval.certainty.Certainty.TheVariants.{Maybe}
 use Rattle.candidate_assembly.specs.Answers.Telling.{asking_rule}
 use Rattle.candidate_assembly.proofs.Aliases.AliasChains.{told-as}

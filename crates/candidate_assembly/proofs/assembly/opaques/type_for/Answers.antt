@@ -1,6 +1,6 @@
 use Rattle.std.proofs.Common.{true, false, sym, ap, ◌∙◌}
-use Rattle.candidate_ir.specs.Instantiation.Folds.{arg_tree}
-use Rattle.candidate_ir.specs.Syntax.Words.{ty_tree}
+use Rattle.ir_trees.specs.Instantiation.Folds.{arg_tree}
+use Rattle.ir_trees.specs.Syntax.Words.{ty_tree}
 use Rattle.candidate_assembly.specs.Rules.Opaques.{type_for}
 use Rattle.candidate_assembly.proofs.Opaques.TypesFor.{no-type-for, other-arg, type-for-tested}
 use Rattle.candidate_assembly.proofs.assembly.opaques.type_for.Goals as goal

@@ -1,16 +1,16 @@
 use Rattle.std.proofs.Common.{◌≡◌, refl, sym, subst, ap, ◌∙◌}
-use Rattle.candidate_ir.specs.Declarations.Context.{Context}
-use Rattle.candidate_ir.specs.Instantiation.Folding.{Answers, fold_tree}
-use Rattle.candidate_ir.specs.Syntax.Trees.{ClauseKind, TypeKind, is_alias, tree_holds}
-use Rattle.candidate_ir.specs.Syntax.Words.{clause_tree, ty_tree}
-use Rattle.candidate_ir.proofs.Growth.Kept.{grows-refl}
-use Rattle.candidate_ir.proofs.Syntax.Rows.{kind-of}
+use Rattle.ir_trees.specs.Declarations.Context.{Context}
+use Rattle.ir_trees.specs.Instantiation.Folding.{Answers, fold_tree}
+use Rattle.ir_trees.specs.Syntax.Trees.{ClauseKind, TypeKind, is_alias, tree_holds}
+use Rattle.ir_trees.specs.Syntax.Words.{clause_tree, ty_tree}
+use Rattle.ir_trees.proofs.Growth.Kept.{grows-refl}
+use Rattle.ir_trees.proofs.Syntax.Rows.{kind-of}
 use Rattle.candidate_assembly.proofs.Calls.Causes.{so-err, so-ok}
 use Rattle.candidate_assembly.proofs.Opaques.TypesFor.{answer-for-is, no-alias-put, type-filled}
 use Rattle.candidate_eval.specs.Interface.Unmade.IsUnmade.{of_trees}
 use Rattle.candidate_eval.specs.Interface.Unmade.IsMade.{filled}
-use Rattle.candidate_ir.specs.Unification.Substitutions.{row_of}
-use Rattle.candidate_ir.proofs.Syntax.Lists.{below_kind}
+use Rattle.ir_trees.specs.Unification.Substitutions.{row_of}
+use Rattle.ir_trees.proofs.Syntax.Lists.{below_kind}
 use Rattle.candidate_assembly.proofs.assembly.opaques.with_type_for.Goals as goal
 
 pub returns-clause-tree : goal.returns-clause-tree

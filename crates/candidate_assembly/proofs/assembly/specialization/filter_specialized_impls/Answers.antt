@@ -1,5 +1,5 @@
 use Rattle.std.proofs.Common.{rules, arith, ◌<◌, ◌≤◌, length, ap, sym, ◌∙◌, subst}
-use Rattle.candidate_ir.specs.Declarations.Context.{Context}
+use Rattle.ir_trees.specs.Declarations.Context.{Context}
 use Rattle.candidate_eval.specs.Outcomes.ResponseTrees.{AreCandidates, candidates_of}
 use Rattle.candidate_assembly.specs.Answers.Assembled.{is_coherence}
 use Rattle.candidate_assembly.proofs.Answers.Specializing.{all-scanned, goes-on-with, goes-on-without, none-scanned, specialization_is_pairwise}

@@ -1,6 +1,6 @@
 use Rattle.std.proofs.Common.{Err, Ok, ap, ◌∙◌}
-use Rattle.candidate_ir.specs.Declarations.References.{reference_of}
-use Rattle.candidate_ir.specs.Syntax.Words.{env_forest}
+use Rattle.ir_trees.specs.Declarations.References.{reference_of}
+use Rattle.ir_trees.specs.Syntax.Words.{env_forest}
 use Rattle.candidate_assembly.proofs.Lists.Unknowing.{conflict-reaches, failure-refuses, known-refuses, knowing-stops, stop-stops}
 use Rattle.candidate_assembly.proofs.assembly.unknowable.require_unknowable.Goals as goal
 

@@ -1,6 +1,6 @@
 use Rattle.std.proofs.Common.{◌≡◌, [], take}
 use Rattle.std.specs.List.{flat_map}
-use Rattle.candidate_ir.specs.Syntax.Words.{args_forest}
+use Rattle.ir_trees.specs.Syntax.Words.{args_forest}
 use Rattle.candidate_eval.proofs.Dynamic.Required.{AddedSoFar}
 use Rattle.candidate_assembly.proofs.Rules.TraitAliases.{with_values}
 use Rattle.candidate_assembly.proofs.trait_goals.aliases.where_clauses.Given as goal

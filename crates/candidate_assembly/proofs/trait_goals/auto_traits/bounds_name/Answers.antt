@@ -1,9 +1,9 @@
 use Rattle.std.proofs.Common.{sym, ◌∙◌}
 use Rattle.std.specs.Prelude.{slice_index_or}
 use Rattle.std.proofs.lemmas.List.{get_or_default}
-use Rattle.candidate_ir.specs.declared.ir.kinds.Clause.{Clause}
-use Rattle.candidate_ir.proofs.Hierarchy.Listing.{listed_clause}
-use Rattle.candidate_ir.proofs.Validity.Misplacing.{any_in, any_on, any_past}
+use Rattle.ir_trees.specs.declared.ir.kinds.Clause.{Clause}
+use Rattle.ir_context.proofs.Hierarchy.Listing.{listed_clause}
+use Rattle.ir_trees.proofs.Validity.Misplacing.{any_in, any_on, any_past}
 use Rattle.candidate_assembly.proofs.Rules.AutoTraits.{bounds-speak, speaks}
 use Rattle.candidate_assembly.proofs.trait_goals.auto_traits.bounds_name.Goals as goal
 

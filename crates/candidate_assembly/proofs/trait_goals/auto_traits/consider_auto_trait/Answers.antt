@@ -1,9 +1,9 @@
 use Rattle.std.proofs.Common.{rules, ◌≡◌, true, false, ap, subst, sym, ◌∙◌}
 use Rattle.std.specs.Prelude.{◌&&◌, not}
 use Rattle.std.proofs.lemmas.Result.{err_from_is_err_and}
-use Rattle.candidate_ir.specs.Declarations.Context.{Context}
-use Rattle.candidate_ir.specs.Declarations.References.{reference_of}
-use Rattle.candidate_ir.specs.Syntax.Words.{args_forest}
+use Rattle.ir_trees.specs.Declarations.Context.{Context}
+use Rattle.ir_trees.specs.Declarations.References.{reference_of}
+use Rattle.ir_trees.specs.Syntax.Words.{args_forest}
 use Rattle.candidate_eval.specs.Dynamic.ObjectRequirements.{first_tree}
 use Rattle.candidate_eval.specs.Builtins.Tables.{cell, row_of}
 use Rattle.candidate_eval.specs.declared.structural.Column.TheVariants as C

@@ -1,7 +1,7 @@
 use Rattle.std.proofs.Common.{[], ap, refl, subst, sym, ◌∙◌, ◌≡◌}
-use Rattle.candidate_ir.specs.Declarations.Context.{Context}
-use Rattle.candidate_ir.specs.Syntax.Words.{PredFits, pred_kind_tree, pred_tree}
-use Rattle.candidate_ir.proofs.Growth.Kept.{grows-refl}
+use Rattle.ir_trees.specs.Declarations.Context.{Context}
+use Rattle.ir_trees.specs.Syntax.Words.{PredFits, pred_kind_tree, pred_tree}
+use Rattle.ir_trees.proofs.Growth.Kept.{grows-refl}
 use Rattle.candidate_assembly.specs.Calls.Upcasting.{IsRow, row_under, row_at}
 use Rattle.candidate_assembly.proofs.Upcasting.UpcastRows.{auto-row, projection-row, row-made, trait-row}
 use Rattle.candidate_assembly.proofs.trait_goals.bounds_met.bound_row.Goals.{in-Trait, in-Projection+in_ok-value-in-Projection, in-AutoTrait+in_ok-value-in-AutoTrait}

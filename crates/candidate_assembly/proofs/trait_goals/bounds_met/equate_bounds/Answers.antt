@@ -1,6 +1,6 @@
 use Rattle.std.proofs.Common.{None, Some}
 use Rattle.std.proofs.lemmas.Result.{err_from_is_err_and}
-use Rattle.candidate_ir.specs.Syntax.Words.{env_forest, pred_tree}
+use Rattle.ir_trees.specs.Syntax.Words.{env_forest, pred_tree}
 use Rattle.candidate_eval.proofs.Dynamic.Objects.{env-kept}
 use Rattle.candidate_eval.proofs.Interface.Probing.{made, then}
 use Rattle.candidate_eval.specs.Interface.Accounts.StopsSomehow.{making}

@@ -1,7 +1,7 @@
 use Rattle.std.proofs.Common.{None, Some}
 use Rattle.std.proofs.lemmas.Result.{err_from_is_err_and}
-use Rattle.candidate_ir.specs.declared.ir.stop.Stop.{Stop}
-use Rattle.candidate_ir.specs.Syntax.Words.{args_forest, env_forest}
+use Rattle.ir_trees.specs.declared.ir.stop.Stop.{Stop}
+use Rattle.ir_trees.specs.Syntax.Words.{args_forest, env_forest}
 use Rattle.candidate_eval.specs.Interface.Accounts as question
 use Rattle.candidate_eval.proofs.Interface.Accounts.{by-stop, reaches, somehow-later}
 use Rattle.candidate_eval.proofs.Dynamic.Objects.{env-kept}

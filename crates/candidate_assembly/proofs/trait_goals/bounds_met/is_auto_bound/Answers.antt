@@ -2,9 +2,9 @@ use Rattle.std.proofs.Common.{◌∙◌, sym}
 use Rattle.std.specs.Prelude.{slice_index_or}
 use Rattle.std.proofs.lemmas.List.{get_or_default}
 use Rattle.std.proofs.lemmas.List.Elements.{All-get_or}
-use Rattle.candidate_ir.specs.declared.ir.kinds.Pred.{Pred}
-use Rattle.candidate_ir.specs.Syntax.Words.{IsPred, pred_tree}
-use Rattle.candidate_ir.proofs.Validity.Misplacing.{any_in, any_on, any_past}
+use Rattle.ir_trees.specs.declared.ir.kinds.Pred.{Pred}
+use Rattle.ir_trees.specs.Syntax.Words.{IsPred, pred_tree}
+use Rattle.ir_trees.proofs.Validity.Misplacing.{any_in, any_on, any_past}
 use Rattle.candidate_assembly.specs.Calls.Upcasting.{names_auto}
 use Rattle.candidate_assembly.proofs.trait_goals.bounds_met.is_auto_bound.Goals as goal
 

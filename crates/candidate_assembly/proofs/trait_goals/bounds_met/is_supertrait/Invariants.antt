@@ -1,6 +1,6 @@
 use Rattle.std.proofs.Common.{◌≡◌, drop}
 use Rattle.std.specs.List.{list_any}
-use Rattle.candidate_ir.specs.Syntax.Words.{clause_tree}
+use Rattle.ir_trees.specs.Syntax.Words.{clause_tree}
 use Rattle.candidate_assembly.specs.Rules.BuiltinRules.{is_of_trait}
 use Rattle.candidate_assembly.proofs.trait_goals.bounds_met.is_supertrait.Given as goal
 

@@ -1,6 +1,6 @@
 use Rattle.std.proofs.Common.{◌≡◌, take}
 use Rattle.std.specs.List.{filter}
-use Rattle.candidate_ir.specs.Syntax.Words.{env_forest, pred_tree}
+use Rattle.ir_trees.specs.Syntax.Words.{env_forest, pred_tree}
 use Rattle.candidate_eval.specs.Interface.Evaluators.{Keeps}
 use Rattle.candidate_assembly.specs.Calls.Upcasting.{meets_projection}
 use Rattle.candidate_assembly.proofs.trait_goals.bounds_met.matching_bounds.Given as goal

@@ -1,9 +1,9 @@
 use Rattle.std.proofs.Common.{rules, ◌≡◌, ◌∙◌, false, map, subst, sym}
 use Rattle.std.specs.Prelude.{option_map}
-use Rattle.candidate_ir.specs.declared.ir.kinds.ExistentialPredicate.TheVariants.{AutoTrait, Projection, Trait}
-use Rattle.candidate_ir.specs.Declarations.Context.{Context}
-use Rattle.candidate_ir.specs.Hierarchy.Elaboration.{number_listed}
-use Rattle.candidate_ir.specs.Syntax.Words.{clause_tree, env_forest, pred_kind_tree, pred_tree}
+use Rattle.ir_trees.specs.declared.ir.kinds.ExistentialPredicate.TheVariants.{AutoTrait, Projection, Trait}
+use Rattle.ir_trees.specs.Declarations.Context.{Context}
+use Rattle.ir_trees.specs.Hierarchy.Elaboration.{number_listed}
+use Rattle.ir_trees.specs.Syntax.Words.{clause_tree, env_forest, pred_kind_tree, pred_tree}
 use Rattle.candidate_assembly.specs.Rules.Unsizing.{autos}
 use Rattle.candidate_assembly.proofs.Upcasting.UpcastMet.{as-principal, as-projection, auto-met, auto-not-met, head-read}
 use Rattle.candidate_assembly.proofs.trait_goals.bounds_met.meet_bound.Goals as goal

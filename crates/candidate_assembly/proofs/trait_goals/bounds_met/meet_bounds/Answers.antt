@@ -2,9 +2,9 @@ use Rattle.std.proofs.Common.{◌≤◌, [], Ok, Err, length, map, refl}
 use Rattle.std.specs.Prelude.{option_map, slice_index_or}
 use Rattle.std.proofs.lemmas.List.Elements.{All-get_or}
 use Rattle.std.proofs.lemmas.Result.{err_from_is_err_and}
-use Rattle.candidate_ir.specs.declared.ir.kinds.Pred.{Pred}
-use Rattle.candidate_ir.specs.Syntax.Words.{clause_tree, env_forest, pred_tree}
-use Rattle.candidate_ir.proofs.Growth.Kept.{grows-refl}
+use Rattle.ir_trees.specs.declared.ir.kinds.Pred.{Pred}
+use Rattle.ir_trees.specs.Syntax.Words.{clause_tree, env_forest, pred_tree}
+use Rattle.ir_trees.proofs.Growth.Kept.{grows-refl}
 use Rattle.candidate_eval.proofs.Interface.Accounts.{by-stop, reaches, somehow-later}
 use Rattle.candidate_eval.proofs.Dynamic.Objects.{env-kept}
 use Rattle.candidate_eval.proofs.Interface.Probing.{then}

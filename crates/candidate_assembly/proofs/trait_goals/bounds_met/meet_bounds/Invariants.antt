@@ -1,6 +1,6 @@
 use Rattle.std.proofs.Common.{drop, map}
 use Rattle.std.specs.Prelude.{option_map}
-use Rattle.candidate_ir.specs.Syntax.Words.{clause_tree, env_forest, pred_tree}
+use Rattle.ir_trees.specs.Syntax.Words.{clause_tree, env_forest, pred_tree}
 use Rattle.candidate_eval.specs.Interface.Evaluators.{Keeps}
 use Rattle.candidate_assembly.specs.Calls.Upcasting.{MetUntil}
 use Rattle.candidate_assembly.proofs.trait_goals.bounds_met.meet_bounds.Given as goal

@@ -1,7 +1,7 @@
 use Rattle.std.proofs.Common.{None, Some, length}
 use Rattle.std.specs.Prelude.{option_map}
 use Rattle.std.proofs.lemmas.Result.{err_from_is_err_and}
-use Rattle.candidate_ir.specs.Syntax.Words.{clause_tree, env_forest, pred_tree}
+use Rattle.ir_trees.specs.Syntax.Words.{clause_tree, env_forest, pred_tree}
 use Rattle.candidate_eval.proofs.Interface.Accounts.{by-stop, somehow-later}
 use Rattle.candidate_eval.proofs.Dynamic.Objects.{env-kept}
 use Rattle.candidate_eval.proofs.Interface.Probing.{made, then}

@@ -1,8 +1,8 @@
 use Rattle.std.proofs.Common.{None, Some, arith, length, refl, ap, ◌∙◌}
 use Rattle.std.specs.Prelude.{slice_index_or}
 use Rattle.std.proofs.lemmas.Result.{err_from_is_err_and}
-use Rattle.candidate_ir.specs.declared.ir.kinds.Pred.{Pred}
-use Rattle.candidate_ir.specs.Syntax.Words.{env_forest, pred_tree}
+use Rattle.ir_trees.specs.declared.ir.kinds.Pred.{Pred}
+use Rattle.ir_trees.specs.Syntax.Words.{env_forest, pred_tree}
 use Rattle.candidate_eval.proofs.Interface.Accounts.{by-stop, reaches, somehow-later}
 use Rattle.candidate_eval.proofs.Dynamic.Objects.{env-kept}
 use Rattle.candidate_eval.proofs.Interface.Probing.{then}

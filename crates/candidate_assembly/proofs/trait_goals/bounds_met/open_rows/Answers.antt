@@ -1,7 +1,7 @@
 use Rattle.std.proofs.Common.{ap, refl, subst, sym, ◌∙◌}
 use Rattle.std.proofs.lemmas.Result.{err_from_is_err_and}
-use Rattle.candidate_ir.specs.Instantiation.Opening.{opened}
-use Rattle.candidate_ir.proofs.Growth.Kept.{args-kept}
+use Rattle.ir_trees.specs.Instantiation.Opening.{opened}
+use Rattle.ir_trees.proofs.Growth.Kept.{args-kept}
 use Rattle.candidate_eval.specs.Judges.States.{State, fresh_variables, with_fresh_variables}
 use Rattle.candidate_assembly.specs.Calls.Upcasting.{Row, row_at}
 use Rattle.candidate_eval.proofs.Interface.Accounts.{reaches, somehow, somehow-later}

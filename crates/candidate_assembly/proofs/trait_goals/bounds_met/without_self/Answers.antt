@@ -1,6 +1,6 @@
 use Rattle.std.proofs.Common.{◌≡◌, subst, ◌∙◌, ap, sym}
-use Rattle.candidate_ir.specs.Declarations.Context.{Context}
-use Rattle.candidate_ir.specs.Syntax.Words.{ListFits, args_forest, list_forest}
+use Rattle.ir_trees.specs.Declarations.Context.{Context}
+use Rattle.ir_trees.specs.Syntax.Words.{ListFits, args_forest, list_forest}
 use Rattle.candidate_assembly.proofs.Calls.Causes.{so-err, so-ok}
 use Rattle.candidate_assembly.proofs.Upcasting.UpcastRows.{rest-trees}
 use Rattle.std.proofs.lemmas.Result.{err_from_is_err_and}

@@ -1,10 +1,10 @@
 use Rattle.std.proofs.Common.{IfErr, IfOk, None, Some, [], false, subst, true, ◌∷◌, ◌≡◌}
 use Rattle.std.proofs.lemmas.Result.{IfErr-weaker, IfOk-weaker, err_from_is_err_and}
-use Rattle.candidate_ir.specs.declared.ir.unify.RightSide.TheVariants.{Plain}
-use Rattle.candidate_ir.specs.Declarations.Context.{Context}
-use Rattle.candidate_ir.specs.Unification.Unify.{may_unify}
-use Rattle.candidate_ir.specs.Syntax.Words.{IsTy, args_forest, env_forest, ty_tree}
-use Rattle.candidate_ir.proofs.Growth.Kept.{args-kept}
+use Rattle.ir_trees.specs.declared.ir.unify.RightSide.TheVariants.{Plain}
+use Rattle.ir_trees.specs.Declarations.Context.{Context}
+use Rattle.ir_trees.specs.Unification.Unify.{may_unify}
+use Rattle.ir_trees.specs.Syntax.Words.{IsTy, args_forest, env_forest, ty_tree}
+use Rattle.ir_trees.proofs.Growth.Kept.{args-kept}
 use Rattle.candidate_eval.specs.declared.eval.refusal.NoSolutionOrStop.TheVariants.{NoSolution}
 use Rattle.candidate_eval.specs.Interface.Accounts as question
 use Rattle.candidate_eval.specs.Interface.Accounts.StopsSomehow.{asking, making}

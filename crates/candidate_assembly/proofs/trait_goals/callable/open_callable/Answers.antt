@@ -1,11 +1,11 @@
 use Rattle.std.proofs.Common.{◌≡◌}
 use Rattle.std.proofs.lemmas.Result.{err_from_is_err_and}
-use Rattle.candidate_ir.specs.Instantiation.Opening.{opened_tree}
-use Rattle.candidate_ir.specs.Syntax.Trees.{Forest}
-use Rattle.candidate_ir.specs.Syntax.Words.{args_forest, ty_tree, vars_tree}
+use Rattle.ir_trees.specs.Instantiation.Opening.{opened_tree}
+use Rattle.ir_trees.specs.Syntax.Trees.{Forest}
+use Rattle.ir_trees.specs.Syntax.Words.{args_forest, ty_tree, vars_tree}
 use Rattle.candidate_eval.specs.Derivations.Characterization.{binder_kinds}
 use Rattle.candidate_eval.specs.Judges.States.{fresh_variables}
-use Rattle.candidate_ir.proofs.Growth.Kept.{args-kept, grows-trans, ty-kept}
+use Rattle.ir_trees.proofs.Growth.Kept.{args-kept, grows-trans, ty-kept}
 use Rattle.candidate_eval.specs.Interface.Accounts.StopsSomehow.{making}
 use Rattle.candidate_eval.proofs.Interface.Accounts.{reaches, somehow}
 use Rattle.candidate_eval.proofs.Interface.Probing.{made, then}

@@ -1,8 +1,8 @@
 use Rattle.std.proofs.Common.{◌≡◌, [], Some, ap, refl, subst, sym, ◌∙◌}
 use Rattle.std.proofs.lemmas.Result.{err_from_is_err_and}
-use Rattle.candidate_ir.specs.Syntax.Trees.{is_param, tree_holds}
-use Rattle.candidate_ir.specs.Declarations.Worlds.{World, TraitSort, parameters}
-use Rattle.candidate_ir.proofs.Growth.Kept.{ty-kept, world-kept}
+use Rattle.ir_trees.specs.Syntax.Trees.{is_param, tree_holds}
+use Rattle.ir_trees.specs.Declarations.Worlds.{World, TraitSort, parameters}
+use Rattle.ir_trees.proofs.Growth.Kept.{ty-kept, world-kept}
 use Rattle.candidate_eval.specs.declared.eval.context.ProbeKind.TheVariants.{Kept}
 use Rattle.candidate_eval.specs.Interface.Accounts as question
 use Rattle.candidate_eval.specs.Builtins.Callable.{CalledWith, callable_of}

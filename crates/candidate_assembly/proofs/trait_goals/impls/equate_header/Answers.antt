@@ -1,11 +1,11 @@
 use Rattle.std.proofs.Common.{◌≡◌, refl, Some, None, IfOk, IfErr}
 use Rattle.std.proofs.lemmas.Result.{IfErr-weaker, IfOk-weaker, err_from_is_err_and}
-use Rattle.candidate_ir.specs.Instantiation.Folding.{substituted}
-use Rattle.candidate_ir.specs.Syntax.Trees.{ArgumentsKind}
-use Rattle.candidate_ir.specs.Syntax.Words.{args_forest, env_forest}
-use Rattle.candidate_ir.proofs.Instantiation.Folding.{substituted-nothing}
-use Rattle.candidate_ir.proofs.Growth.Kept.{args-kept, grows-refl}
-use Rattle.candidate_ir.proofs.Instantiation.Substituting.{list-there}
+use Rattle.ir_trees.specs.Instantiation.Folding.{substituted}
+use Rattle.ir_trees.specs.Syntax.Trees.{ArgumentsKind}
+use Rattle.ir_trees.specs.Syntax.Words.{args_forest, env_forest}
+use Rattle.ir_trees.proofs.Instantiation.Folding.{substituted-nothing}
+use Rattle.ir_trees.proofs.Growth.Kept.{args-kept, grows-refl}
+use Rattle.ir_folds.proofs.Instantiation.Substituting.{list-there}
 use Rattle.candidate_eval.specs.declared.eval.refusal.NoSolutionOrStop.TheVariants.{NoSolution}
 use Rattle.candidate_eval.specs.Interface.Accounts.StopsSomehow.{asking, making}
 use Rattle.candidate_eval.specs.Interface.Evaluators.{accepted}

@@ -1,9 +1,9 @@
 use Rattle.std.proofs.Common.{◌≡◌, add-one, drop, slice_index_or, ◌+◌, ◌∷◌}
 use Rattle.std.proofs.lemmas.Result.{err_from_is_err_and}
 use Rattle.std.proofs.Math.Seq.{drop-cons}
-use Rattle.candidate_ir.specs.Syntax.Words.{args_forest, clause_tree, env_forest}
-use Rattle.candidate_ir.proofs.Instantiation.Joining.{clause-kept}
-use Rattle.candidate_ir.proofs.Growth.Kept.{args-kept}
+use Rattle.ir_trees.specs.Syntax.Words.{args_forest, clause_tree, env_forest}
+use Rattle.ir_folds.proofs.Instantiation.Joining.{clause-kept}
+use Rattle.ir_trees.proofs.Growth.Kept.{args-kept}
 use Rattle.candidate_eval.specs.Interface.Accounts.StopsSomehow.{asking, making}
 use Rattle.candidate_eval.specs.Derivations.Judging.{goal_at}
 use Rattle.candidate_eval.specs.Judges.States.{added}
@@ -14,7 +14,7 @@ use Rattle.candidate_eval.proofs.Interface.Probing.{then}
 use Rattle.candidate_assembly.specs.Answers.Telling.{standing}
 use Rattle.candidate_eval.specs.Interface.Unmade.IsUnmade.{of_trees}
 use Rattle.candidate_eval.specs.Interface.Unmade.IsMade.{with_arguments}
-use Rattle.candidate_ir.specs.Syntax.Trees.{ClauseKind}
+use Rattle.ir_trees.specs.Syntax.Trees.{ClauseKind}
 use Rattle.candidate_assembly.proofs.trait_goals.impls.nest_clauses.Goals as goal
 
 pub substitute-requires-clause-value : goal.substitute-requires-clause-value

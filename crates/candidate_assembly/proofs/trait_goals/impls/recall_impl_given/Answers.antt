@@ -1,4 +1,4 @@
-use Rattle.candidate_ir.proofs.Validity.Given.{impl_given}
+use Rattle.ir_context.proofs.Validity.Given.{impl_given}
 use Rattle.candidate_assembly.proofs.trait_goals.impls.recall_impl_given.Goals as goal
 
 pub returns : goal.returns

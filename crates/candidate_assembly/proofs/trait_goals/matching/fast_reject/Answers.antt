@@ -1,7 +1,7 @@
 use Rattle.std.proofs.Common.{◌∙◌, ap, sym, refl, true, false}
-use Rattle.candidate_ir.specs.declared.ir.unify.RightSide.TheVariants.{Plain}
-use Rattle.candidate_ir.specs.Unification.Unify.{may_unify}
-use Rattle.candidate_ir.specs.Syntax.Words.{args_forest, clause_tree}
+use Rattle.ir_trees.specs.declared.ir.unify.RightSide.TheVariants.{Plain}
+use Rattle.ir_trees.specs.Unification.Unify.{may_unify}
+use Rattle.ir_trees.specs.Syntax.Words.{args_forest, clause_tree}
 use Rattle.candidate_assembly.specs.Goals.TraitGoals.{trait_goal}
 use Rattle.candidate_assembly.proofs.Goals.Clauses.{passes-said}
 use Rattle.candidate_assembly.proofs.trait_goals.matching.fast_reject.Goals as goal

@@ -1,8 +1,8 @@
 use Rattle.std.proofs.Common.{rules, ◌≡◌, true, false, map, ap, subst, sym, ◌∙◌}
 use Rattle.std.proofs.lemmas.Result.{err_from_is_err_and}
-use Rattle.candidate_ir.specs.Declarations.Context.{Context}
-use Rattle.candidate_ir.specs.Syntax.Trees.{Tree, is_param, tree_holds}
-use Rattle.candidate_ir.specs.Syntax.Words.{args_forest, ty_tree}
+use Rattle.ir_trees.specs.Declarations.Context.{Context}
+use Rattle.ir_trees.specs.Syntax.Trees.{Tree, is_param, tree_holds}
+use Rattle.ir_trees.specs.Syntax.Words.{args_forest, ty_tree}
 use Rattle.candidate_eval.specs.Interface.Evaluators.{kinds_listed}
 use Rattle.candidate_eval.specs.Derivations.Characterization.{binder_kinds}
 use Rattle.candidate_eval.specs.Builtins.Asked.{variables}
@@ -19,7 +19,7 @@ use Rattle.candidate_assembly.proofs.Rules.PartsTold.{all-types, first-parameter
 use Rattle.candidate_assembly.proofs.Calls.Stepping.{memory-own}
 use Rattle.candidate_eval.proofs.Builtins.PartsFree.{parts-parameterless}
 use Rattle.candidate_eval.specs.Interface.Unmade.IsUnmade.{of_cell}
-use Rattle.candidate_ir.proofs.Growth.Kept.{grows-refl}
+use Rattle.ir_trees.proofs.Growth.Kept.{grows-refl}
 use Rattle.candidate_assembly.proofs.trait_goals.parts.consider_column.Goals as goal
 
 pub returns-in_err-parts : goal.returns-in_err-parts

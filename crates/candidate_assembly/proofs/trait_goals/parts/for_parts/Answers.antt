@@ -1,7 +1,7 @@
 use Rattle.std.proofs.Common.{rules, ◌≤◌, [], ◌++◌, List, length, refl, ◌∙◌, ap, map}
-use Rattle.candidate_ir.specs.Syntax.Trees.{Tree}
-use Rattle.candidate_ir.specs.Syntax.Words.{clause_tree}
-use Rattle.candidate_ir.proofs.Growth.Kept.{args-kept, grows-trans, ty-kept}
+use Rattle.ir_trees.specs.Syntax.Trees.{Tree}
+use Rattle.ir_trees.specs.Syntax.Words.{clause_tree}
+use Rattle.ir_trees.proofs.Growth.Kept.{args-kept, grows-trans, ty-kept}
 use Rattle.candidate_eval.proofs.Dynamic.Required.{all_gathered, more_gathered, none_added}
 use Rattle.candidate_eval.proofs.Builtins.Types.{ty_at}
 use Rattle.candidate_assembly.proofs.Rules.PartClauses.{part-kept, parts-said, said_of_part, under-kept}

@@ -1,6 +1,6 @@
 use Rattle.std.proofs.Common.{◌∙◌}
-use Rattle.candidate_ir.specs.Syntax.Words.{args_forest, ty_tree}
-use Rattle.candidate_ir.proofs.Growth.Kept.{args-kept}
+use Rattle.ir_trees.specs.Syntax.Words.{args_forest, ty_tree}
+use Rattle.ir_trees.proofs.Growth.Kept.{args-kept}
 use Rattle.candidate_assembly.proofs.Goals.TraitClauses.{fact-fits, fact-takes, fit-kept, made-for-type}
 use Rattle.candidate_assembly.proofs.Calls.Causes.{so-err, so-ok}
 use Rattle.std.proofs.lemmas.Result.{err_from_is_err_and}

@@ -1,5 +1,5 @@
 use Rattle.std.proofs.Common.{ap, sym, ◌∙◌}
-use Rattle.candidate_ir.specs.Syntax.Words.{vars_tree}
+use Rattle.ir_trees.specs.Syntax.Words.{vars_tree}
 use Rattle.candidate_eval.specs.Builtins.Asked.{variables}
 use Rattle.candidate_eval.specs.Derivations.Characterization.{binder_kinds}
 use Rattle.candidate_eval.proofs.Dynamic.Objects.{variables-read}

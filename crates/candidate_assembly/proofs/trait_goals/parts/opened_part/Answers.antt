@@ -2,7 +2,7 @@ use Rattle.candidate_assembly.proofs.Calls.Causes.{so-err}
 use Rattle.candidate_eval.specs.Interface.Unmade.IsUnmade.{of_trees}
 use Rattle.candidate_eval.specs.Interface.Unmade.IsMade.{under_binder}
 use Rattle.candidate_eval.specs.Interface.Unmade.AreValues.{members}
-use Rattle.candidate_ir.proofs.Growth.Kept.{grows-refl}
+use Rattle.ir_trees.proofs.Growth.Kept.{grows-refl}
 use Rattle.candidate_assembly.proofs.trait_goals.parts.opened_part.Goals as goal
 
 pub returns-in-Some-clause-cause : goal.returns-in-Some-clause-cause

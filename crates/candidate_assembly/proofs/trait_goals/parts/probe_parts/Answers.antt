@@ -1,6 +1,6 @@
 use Rattle.std.proofs.Common.{true, map}
 use Rattle.std.proofs.lemmas.Result.{err_from_is_err_and}
-use Rattle.candidate_ir.specs.Syntax.Words.{ty_tree}
+use Rattle.ir_trees.specs.Syntax.Words.{ty_tree}
 use Rattle.candidate_eval.specs.Interface.Evaluators.{kinds_listed}
 use Rattle.candidate_eval.proofs.Builtins.Types.{types_kept}
 use Rattle.candidate_assembly.specs.Rules.BuiltinRules.{entered_rule}

@@ -1,7 +1,7 @@
 use Rattle.std.proofs.Common.{rules, ◌≡◌, ◌∷◌, [], ◌++◌, ap, ◌∙◌}
-use Rattle.candidate_ir.specs.Syntax.Trees.{Forest}
-use Rattle.candidate_ir.specs.Syntax.Words.{args_forest, ty_tree}
-use Rattle.candidate_ir.proofs.Growth.Kept.{args-kept, grows-trans}
+use Rattle.ir_trees.specs.Syntax.Trees.{Forest}
+use Rattle.ir_trees.specs.Syntax.Words.{args_forest, ty_tree}
+use Rattle.ir_trees.proofs.Growth.Kept.{args-kept, grows-trans}
 use Rattle.candidate_eval.proofs.Dynamic.Required.{pushed_fit, pushed_trees}
 use Rattle.candidate_assembly.specs.Rules.BuiltinRules.{opened_by, said_of_type, values_at}
 use Rattle.candidate_assembly.proofs.Goals.TraitClauses.{fit-kept}

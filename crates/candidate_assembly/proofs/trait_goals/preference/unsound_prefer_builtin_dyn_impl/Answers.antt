@@ -1,5 +1,5 @@
 use Rattle.std.proofs.Common.{ap, sym, not, ◌∙◌, ◌≡◌, List, subst, true, false}
-use Rattle.candidate_ir.specs.Declarations.Context.{Context}
+use Rattle.ir_trees.specs.Declarations.Context.{Context}
 use Rattle.candidate_eval.specs.declared.eval.response.Candidate.{Candidate}
 use Rattle.candidate_eval.specs.Outcomes.ResponseTrees.{AreCandidates, candidates_of}
 use Rattle.candidate_assembly.specs.Answers.Assembled.{is_coherence}

@@ -1,7 +1,7 @@
 use Rattle.std.proofs.Common.{rules, ◌≡◌, [], ◌∷◌, ◌++◌, ◌≤◌, length, refl, ◌∙◌}
-use Rattle.candidate_ir.specs.declared.ir.kinds.GoalSource.TheVariants.{ImplWhereBound}
-use Rattle.candidate_ir.proofs.Growth.Kept.{grows-trans, ty-kept}
-use Rattle.candidate_ir.proofs.Growth.Made.{IsPred-listed}
+use Rattle.ir_trees.specs.declared.ir.kinds.GoalSource.TheVariants.{ImplWhereBound}
+use Rattle.ir_trees.proofs.Growth.Kept.{grows-trans, ty-kept}
+use Rattle.ir_trees.proofs.Growth.Made.{IsPred-listed}
 use Rattle.candidate_eval.proofs.Dynamic.Required.{preds_read}
 use Rattle.candidate_assembly.proofs.Unsizing.DynRequirements.{all-required, next-said, none-yet, said-still}
 use Rattle.std.proofs.lemmas.Result.{err_from_is_err_and}

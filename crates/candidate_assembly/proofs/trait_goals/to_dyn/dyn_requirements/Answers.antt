@@ -1,9 +1,9 @@
 use Rattle.std.proofs.Common.{rules, ◌≡◌, [], ◌∷◌, ◌++◌, ap, subst, ◌∙◌}
-use Rattle.candidate_ir.specs.declared.ir.kinds.GoalSource.TheVariants.{ImplWhereBound, Misc}
-use Rattle.candidate_ir.specs.Declarations.Context.{Context}
-use Rattle.candidate_ir.specs.Syntax.Words.{IsPreds, IsRegion}
-use Rattle.candidate_ir.specs.Declarations.Worlds.{World, TraitSort, parameters}
-use Rattle.candidate_ir.proofs.Growth.Kept.{grows-trans, ty-kept, world-kept}
+use Rattle.ir_trees.specs.declared.ir.kinds.GoalSource.TheVariants.{ImplWhereBound, Misc}
+use Rattle.ir_trees.specs.Declarations.Context.{Context}
+use Rattle.ir_trees.specs.Syntax.Words.{IsPreds, IsRegion}
+use Rattle.ir_trees.specs.Declarations.Worlds.{World, TraitSort, parameters}
+use Rattle.ir_trees.proofs.Growth.Kept.{grows-trans, ty-kept, world-kept}
 use Rattle.candidate_assembly.proofs.Unsizing.DynRequirements.{ArePartsOf, dyn-required, region-still}
 use Rattle.std.proofs.lemmas.Result.{err_from_is_err_and}
 use Rattle.candidate_eval.specs.Interface.Unmade.IsUnmade.{no_memory}

@@ -1,14 +1,14 @@
 use Rattle.std.proofs.Common.{◌∙◌, ap}
-use Rattle.candidate_ir.specs.declared.ir.heads.ClauseHead.TheVariants.{TypeOutlives}
-use Rattle.candidate_ir.specs.Syntax.Trees.{Tree}
-use Rattle.candidate_ir.specs.Syntax.Words.{region_tree, ty_tree}
-use Rattle.candidate_ir.proofs.Growth.Kept.{grows-trans, ty-kept}
+use Rattle.ir_trees.specs.declared.ir.heads.ClauseHead.TheVariants.{TypeOutlives}
+use Rattle.ir_trees.specs.Syntax.Trees.{Tree}
+use Rattle.ir_trees.specs.Syntax.Words.{region_tree, ty_tree}
+use Rattle.ir_trees.proofs.Growth.Kept.{grows-trans, ty-kept}
 use Rattle.candidate_assembly.specs.Rules.Unsizing.{outlives}
 use Rattle.candidate_assembly.proofs.Calls.Causes.{so-err, so-ok}
 use Rattle.candidate_assembly.proofs.Unsizing.DynRequirements.{lives-fits, lives-is, lives-takes, region-still}
 use Rattle.std.proofs.lemmas.Result.{err_from_is_err_and}
 use Rattle.candidate_eval.proofs.Interface.Unmade.{binder-unmade, clause-unmade}
-use Rattle.candidate_ir.specs.declared.ir.kinds.ClauseKind.TheVariants as K
+use Rattle.ir_trees.specs.declared.ir.kinds.ClauseKind.TheVariants as K
 use Rattle.candidate_assembly.proofs.trait_goals.to_dyn.outlives.Goals as goal
 
 pub mk_clause-requires-clause-fits : goal.mk_clause-requires-clause-fits

@@ -1,6 +1,6 @@
 use Rattle.std.proofs.Common.{true, false}
-use Rattle.candidate_ir.specs.declared.decl.contents.LangItem.TheVariants.{Sized}
-use Rattle.candidate_ir.specs.Syntax.Words.{ty_tree}
+use Rattle.ir_trees.specs.declared.decl.contents.LangItem.TheVariants.{Sized}
+use Rattle.ir_trees.specs.Syntax.Words.{ty_tree}
 use Rattle.candidate_assembly.specs.Rules.BuiltinRules.{self_of}
 use Rattle.candidate_assembly.specs.Goals.TraitGoals.{item_trait, trait_goal}
 use Rattle.candidate_assembly.specs.Rules.Unsizing.{any_to_dyn}

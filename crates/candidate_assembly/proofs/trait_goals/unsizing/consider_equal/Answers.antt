@@ -1,8 +1,8 @@
 use Rattle.std.proofs.Common.{ap, map, ◌∙◌}
 use Rattle.std.proofs.lemmas.Result.{err_from_is_err_and}
-use Rattle.candidate_ir.specs.Syntax.Trees.{is_param, tree_holds}
-use Rattle.candidate_ir.specs.Syntax.Words.{clause_tree, env_forest, ty_tree}
-use Rattle.candidate_ir.proofs.Growth.Kept.{ty-kept}
+use Rattle.ir_trees.specs.Syntax.Trees.{is_param, tree_holds}
+use Rattle.ir_trees.specs.Syntax.Words.{clause_tree, env_forest, ty_tree}
+use Rattle.ir_trees.proofs.Growth.Kept.{ty-kept}
 use Rattle.candidate_eval.specs.declared.eval.context.ProbeKind.TheVariants.{Kept}
 use Rattle.candidate_eval.specs.Interface.Accounts as question
 use Rattle.candidate_eval.proofs.Dynamic.Objects.{env-kept}

@@ -1,5 +1,5 @@
 use Rattle.candidate_assembly.proofs.Unsizing.Elements.{array-element, slice-element}
-use Rattle.candidate_ir.specs.Syntax.Words.{ty_tree}
+use Rattle.ir_trees.specs.Syntax.Words.{ty_tree}
 use Rattle.candidate_assembly.proofs.trait_goals.unsizing.element.Goals as goal
 
 pub returns-in-Array-clause-tree : goal.returns-in-Array-clause-tree

@@ -1,8 +1,8 @@
 use Rattle.std.proofs.Common.{◌≡◌, ◌≤◌, ◌++◌, [], ◌∷◌, Bool, length, get_or, sym, ap, ◌∙◌, arith}
 use Rattle.std.specs.Prelude.{if◌then◌else◌}
-use Rattle.candidate_ir.specs.declared.ir.kinds.GenericArg.{GenericArg}
-use Rattle.candidate_ir.specs.declared.ir.kinds.GenericArg.TheVariants as G
-use Rattle.candidate_ir.specs.Hierarchy.Elaboration.{number_listed}
+use Rattle.ir_trees.specs.declared.ir.kinds.GenericArg.{GenericArg}
+use Rattle.ir_trees.specs.declared.ir.kinds.GenericArg.TheVariants as G
+use Rattle.ir_trees.specs.Hierarchy.Elaboration.{number_listed}
 use Rattle.candidate_assembly.proofs.Unsizing.Mixing.{all-mixed, one-mixed}
 use Rattle.candidate_assembly.proofs.trait_goals.unsizing.mixed_list.Goals as goal
 use Rattle.candidate_assembly.proofs.trait_goals.unsizing.mixed_list.Goals.{then-is_listed, else-is_listed}

@@ -1,19 +1,19 @@
 use Rattle.std.proofs.Common.{◌≡◌, Some, List, sym, ap, subst, ◌∙◌}
-use Rattle.candidate_ir.specs.declared.ir.heads.Head.TheVariants as H
-use Rattle.candidate_ir.specs.declared.ir.kinds.Args.{Args}
-use Rattle.candidate_ir.specs.declared.ir.kinds.GenericArg.{GenericArg}
-use Rattle.candidate_ir.specs.Declarations.Context.{Context, world}
-use Rattle.candidate_ir.specs.Syntax.Trees.{Forest, Tree}
-use Rattle.candidate_ir.specs.Syntax.Words.{ListFits, args_forest, list_forest}
-use Rattle.candidate_ir.specs.Declarations.Worlds.{AdtSort, World, kinds_of, parameters}
-use Rattle.candidate_ir.proofs.Growth.Kept.{world-kept}
+use Rattle.ir_trees.specs.declared.ir.heads.Head.TheVariants as H
+use Rattle.ir_trees.specs.declared.ir.kinds.Args.{Args}
+use Rattle.ir_trees.specs.declared.ir.kinds.GenericArg.{GenericArg}
+use Rattle.ir_trees.specs.Declarations.Context.{Context, world}
+use Rattle.ir_trees.specs.Syntax.Trees.{Forest, Tree}
+use Rattle.ir_trees.specs.Syntax.Words.{ListFits, args_forest, list_forest}
+use Rattle.ir_trees.specs.Declarations.Worlds.{AdtSort, World, kinds_of, parameters}
+use Rattle.ir_trees.proofs.Growth.Kept.{world-kept}
 use Rattle.candidate_assembly.specs.Rules.Unsizing.{unsizing_parameters}
 use Rattle.candidate_assembly.proofs.Calls.Causes.{so-err, so-ok}
 use Rattle.candidate_assembly.proofs.Unsizing.MixedForests.{args-length, args-row, mixed-row}
 use Rattle.std.proofs.lemmas.Result.{err_from_is_err_and}
 use Rattle.candidate_eval.specs.Interface.Unmade.IsUnmade.{no_memory}
 use Rattle.candidate_eval.proofs.Interface.Unmade.{members-unmade, type-unmade}
-use Rattle.candidate_ir.specs.declared.ir.kinds.TyKind.TheVariants as TK
+use Rattle.ir_trees.specs.declared.ir.kinds.TyKind.TheVariants as TK
 use Rattle.candidate_assembly.proofs.trait_goals.unsizing.mixed_type.Goals as goal
 
 abbrev Lists : Args → List GenericArg → Context → Type 0

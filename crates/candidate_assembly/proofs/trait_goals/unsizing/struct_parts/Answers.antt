@@ -1,5 +1,5 @@
 use Rattle.std.proofs.Common.{◌∙◌}
-use Rattle.candidate_ir.proofs.Growth.Kept.{args-kept}
+use Rattle.ir_trees.proofs.Growth.Kept.{args-kept}
 use Rattle.candidate_assembly.proofs.Unsizing.StructParts.{clause-still, mixed-still}
 use Rattle.candidate_assembly.proofs.Unsizing.Tails.{adt-fits-still}
 use Rattle.std.proofs.lemmas.Result.{err_from_is_err_and}

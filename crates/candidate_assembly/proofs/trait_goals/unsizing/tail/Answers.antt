@@ -1,20 +1,20 @@
 use Rattle.std.proofs.Common.{◌≡◌, [], None, Some, sym, subst, ◌∙◌}
-use Rattle.candidate_ir.specs.declared.ir.kinds.Ty.{Ty}
-use Rattle.candidate_ir.specs.Declarations.Context.{Context}
-use Rattle.candidate_ir.specs.Declarations.Contents.{AdtContents}
-use Rattle.candidate_ir.specs.Declarations.Declaring.{adt_at}
-use Rattle.candidate_ir.specs.Instantiation.Folding.{substituted_tree}
-use Rattle.candidate_ir.specs.Declarations.Lookups.{maybe}
-use Rattle.candidate_ir.specs.Syntax.Trees.{Tree, TypeKind}
-use Rattle.candidate_ir.specs.Syntax.Words.{args_forest, ty_tree}
+use Rattle.ir_trees.specs.declared.ir.kinds.Ty.{Ty}
+use Rattle.ir_trees.specs.Declarations.Context.{Context}
+use Rattle.ir_trees.specs.Declarations.Contents.{AdtContents}
+use Rattle.ir_trees.specs.Declarations.Declaring.{adt_at}
+use Rattle.ir_trees.specs.Instantiation.Folding.{substituted_tree}
+use Rattle.ir_trees.specs.Declarations.Lookups.{maybe}
+use Rattle.ir_trees.specs.Syntax.Trees.{Tree, TypeKind}
+use Rattle.ir_trees.specs.Syntax.Words.{args_forest, ty_tree}
 use Rattle.candidate_eval.specs.Builtins.Tables.{last_of, optional}
 use Rattle.candidate_assembly.proofs.Calls.Causes.{so-err, so-ok}
 use Rattle.candidate_assembly.proofs.Unsizing.Tails.{no-tail, tail-there}
 use Rattle.candidate_eval.specs.Interface.Unmade.IsUnmade.{of_trees}
 use Rattle.candidate_eval.specs.Interface.Unmade.IsMade.{with_arguments}
 use Rattle.candidate_eval.proofs.Interface.Unmade.{type-unmade}
-use Rattle.candidate_ir.specs.declared.ir.kinds.TyKind.TheVariants as TK
-use Rattle.candidate_ir.proofs.Growth.Kept.{grows-refl}
+use Rattle.ir_trees.specs.declared.ir.kinds.TyKind.TheVariants as TK
+use Rattle.ir_trees.proofs.Growth.Kept.{grows-refl}
 use Rattle.candidate_assembly.proofs.trait_goals.unsizing.tail.Goals as goal
 
 pub returns-in-Some-clause-tree : goal.returns-in-Some-clause-tree

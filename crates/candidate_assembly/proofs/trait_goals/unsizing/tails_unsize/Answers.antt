@@ -1,9 +1,9 @@
 use Rattle.std.proofs.Common.{◌≡◌, ap, ◌∙◌}
-use Rattle.candidate_ir.specs.declared.ir.kinds.Clause.{Clause}
-use Rattle.candidate_ir.specs.declared.ir.kinds.PredicatePolarity.TheVariants as Pol
-use Rattle.candidate_ir.specs.Syntax.Trees.{none, Tree}
-use Rattle.candidate_ir.specs.Syntax.Words.{args_forest, clause_tree, ty_tree}
-use Rattle.candidate_ir.proofs.Growth.Kept.{args-kept, grows-trans, ty-kept}
+use Rattle.ir_trees.specs.declared.ir.kinds.Clause.{Clause}
+use Rattle.ir_trees.specs.declared.ir.kinds.PredicatePolarity.TheVariants as Pol
+use Rattle.ir_trees.specs.Syntax.Trees.{none, Tree}
+use Rattle.ir_trees.specs.Syntax.Words.{args_forest, clause_tree, ty_tree}
+use Rattle.ir_trees.proofs.Growth.Kept.{args-kept, grows-trans, ty-kept}
 use Rattle.candidate_assembly.specs.Rules.BuiltinRules.{holds_of, pair_of}
 use Rattle.candidate_assembly.specs.Rules.Unsizing.{tail_of}
 use Rattle.candidate_assembly.proofs.Calls.Causes.{so-err, so-ok}

@@ -1,7 +1,7 @@
 use Rattle.std.proofs.lemmas.Result.{err_from_is_err_and}
-use Rattle.candidate_ir.specs.declared.ir.stop.Stop.{Stop}
-use Rattle.candidate_ir.specs.Unification.Substitutions.{alone}
-use Rattle.candidate_ir.specs.Syntax.Words.{clause_tree, env_forest, ty_tree}
+use Rattle.ir_trees.specs.declared.ir.stop.Stop.{Stop}
+use Rattle.ir_trees.specs.Unification.Substitutions.{alone}
+use Rattle.ir_trees.specs.Syntax.Words.{clause_tree, env_forest, ty_tree}
 use Rattle.std.proofs.Common.{map}
 use Rattle.candidate_eval.specs.Interface.Accounts as question
 use Rattle.candidate_eval.specs.Derivations.Judging.{judged}

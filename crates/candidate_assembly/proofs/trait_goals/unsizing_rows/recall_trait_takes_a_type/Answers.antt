@@ -1,5 +1,5 @@
 use Rattle.std.proofs.Common.{refl}
-use Rattle.candidate_ir.specs.declared.decl.contents.LangItem.TheVariants as L
+use Rattle.ir_trees.specs.declared.decl.contents.LangItem.TheVariants as L
 use Rattle.candidate_assembly.proofs.Rules.LangItems.{item-takes-a-type}
 use Rattle.candidate_assembly.proofs.trait_goals.unsizing_rows.recall_trait_takes_a_type.Goals as goal
 

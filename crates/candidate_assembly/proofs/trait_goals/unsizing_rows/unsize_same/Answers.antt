@@ -1,8 +1,8 @@
 use Rattle.std.proofs.Common.{◌≡◌, Bool, [], ◌∷◌, List, sym, ap, subst, ◌∙◌}
 use Rattle.std.specs.Prelude.{if◌then◌else◌}
-use Rattle.candidate_ir.specs.Declarations.Context.{Context}
-use Rattle.candidate_ir.specs.Declarations.Lookups.{adt_shape, definition}
-use Rattle.candidate_ir.specs.Syntax.Words.{ty_tree}
+use Rattle.ir_trees.specs.Declarations.Context.{Context}
+use Rattle.ir_trees.specs.Declarations.Lookups.{adt_shape, definition}
+use Rattle.ir_trees.specs.Syntax.Words.{ty_tree}
 use Rattle.candidate_eval.specs.Derivations.Rules.{Rule}
 use Rattle.candidate_assembly.specs.Rules.BuiltinRules.{self_of}
 use Rattle.candidate_assembly.specs.Answers.Listing.{ConsidersAll}

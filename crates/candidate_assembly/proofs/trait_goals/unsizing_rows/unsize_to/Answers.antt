@@ -1,6 +1,6 @@
 use Rattle.std.proofs.Common.{[], List, Err, ap, subst, ◌∙◌, refl}
 use Rattle.std.proofs.lemmas.Result.{err_from_is_err_and}
-use Rattle.candidate_ir.specs.Syntax.Words.{ty_tree}
+use Rattle.ir_trees.specs.Syntax.Words.{ty_tree}
 use Rattle.candidate_eval.specs.declared.eval.response.Candidate.{Candidate}
 use Rattle.candidate_assembly.specs.Goals.TraitGoals.{trait_goal}
 use Rattle.candidate_assembly.specs.Rules.Unsizing.{IsUnsizedTo}

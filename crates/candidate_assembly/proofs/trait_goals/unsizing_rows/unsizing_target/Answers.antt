@@ -1,9 +1,9 @@
 use Rattle.std.proofs.Common.{◌≡◌, sym, subst, ap, ◌∙◌}
-use Rattle.candidate_ir.specs.declared.ir.kinds.GenericArg.TheVariants as G
-use Rattle.candidate_ir.specs.declared.ir.kinds.Ty.{Ty}
-use Rattle.candidate_ir.specs.Syntax.Words.{IsTy, ty_tree}
+use Rattle.ir_trees.specs.declared.ir.kinds.GenericArg.TheVariants as G
+use Rattle.ir_trees.specs.declared.ir.kinds.Ty.{Ty}
+use Rattle.ir_trees.specs.Syntax.Words.{IsTy, ty_tree}
 use Rattle.candidate_eval.specs.Dynamic.ObjectRequirements.{first_tree}
-use Rattle.candidate_ir.specs.Hierarchy.Supers.{after_first}
+use Rattle.ir_trees.specs.Hierarchy.Supers.{after_first}
 use Rattle.candidate_assembly.proofs.Unsizing.TwoTypes.{second-is, second-there, two-arguments}
 use Rattle.candidate_assembly.proofs.trait_goals.unsizing_rows.unsizing_target.Goals as goal
 

@@ -1,5 +1,5 @@
 use Rattle.std.proofs.Common.{◌-◌, map, take}
-use Rattle.candidate_ir.specs.Syntax.Words.{env_forest}
+use Rattle.ir_trees.specs.Syntax.Words.{env_forest}
 use Rattle.candidate_assembly.proofs.Lists.Listing.{ListedSoFar}
 use Rattle.candidate_assembly.proofs.Upcasting.UpcastRules.{proper, rule-by}
 use Rattle.candidate_assembly.proofs.trait_goals.upcasting.consider_upcasts.Given as goal

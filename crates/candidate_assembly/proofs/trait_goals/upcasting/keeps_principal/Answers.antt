@@ -1,6 +1,6 @@
 use Rattle.std.proofs.Common.{Option, subst}
-use Rattle.candidate_ir.specs.declared.ir.kinds.TraitId.{TraitId}
-use Rattle.candidate_ir.specs.Syntax.Words.{preds_forest, ty_tree}
+use Rattle.ir_trees.specs.declared.ir.kinds.TraitId.{TraitId}
+use Rattle.ir_trees.specs.Syntax.Words.{preds_forest, ty_tree}
 use Rattle.candidate_assembly.specs.Rules.DynBounds.{principal_in}
 use Rattle.candidate_assembly.proofs.Upcasting.UpcastParts.{IsPrincipal, keeps-none, keeps-not, keeps-same, principal-read}
 use Rattle.candidate_assembly.proofs.trait_goals.upcasting.keeps_principal.Goals as goal

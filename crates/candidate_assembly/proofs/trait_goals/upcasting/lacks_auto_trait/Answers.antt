@@ -1,7 +1,7 @@
 use Rattle.std.proofs.Common.{◌∙◌, ap, sym}
 use Rattle.std.specs.Prelude.{not}
-use Rattle.candidate_ir.specs.declared.ir.kinds.ExistentialPredicate.TheVariants.{AutoTrait}
-use Rattle.candidate_ir.specs.declared.ir.heads.Head.{Head}
+use Rattle.ir_trees.specs.declared.ir.kinds.ExistentialPredicate.TheVariants.{AutoTrait}
+use Rattle.ir_trees.specs.declared.ir.heads.Head.{Head}
 use Rattle.candidate_assembly.specs.Calls.Upcasting.{lacks_auto, names_by}
 use Rattle.candidate_assembly.proofs.Upcasting.UpcastMet.{head-read}
 use Rattle.candidate_assembly.proofs.trait_goals.upcasting.lacks_auto_trait.Goals as goal

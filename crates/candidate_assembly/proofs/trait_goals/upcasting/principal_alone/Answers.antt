@@ -1,9 +1,9 @@
 use Rattle.std.proofs.Common.{All, None, Some, List, [], ◌∷◌, ap, map, subst, sym, ◌∙◌}
 use Rattle.std.proofs.lemmas.List.Elements.{All-cons, All-nil}
-use Rattle.candidate_ir.specs.Declarations.Context.{Context}
-use Rattle.candidate_ir.specs.Validity.WellFormed.{IsWellFormedTable}
-use Rattle.candidate_ir.specs.declared.ir.kinds.Clause.{Clause}
-use Rattle.candidate_ir.specs.Syntax.Words.{IsClause, clause_tree, pred_tree, ty_tree}
+use Rattle.ir_trees.specs.Declarations.Context.{Context}
+use Rattle.ir_trees.specs.Validity.WellFormed.{IsWellFormedTable}
+use Rattle.ir_trees.specs.declared.ir.kinds.Clause.{Clause}
+use Rattle.ir_trees.specs.Syntax.Words.{IsClause, clause_tree, pred_tree, ty_tree}
 use Rattle.candidate_assembly.specs.Calls.Upcasting.{IsRuleClause, principal_said}
 use Rattle.candidate_assembly.proofs.Unsizing.ToDyn.{no-some}
 use Rattle.candidate_assembly.proofs.Upcasting.UpcastParts.{alone-stands, principal-found, principal-stands}

@@ -1,14 +1,14 @@
 use Rattle.std.proofs.Common.{[], ◌∷◌, Ok, Err, map, sym, subst}
 use Rattle.std.specs.Prelude.{option_map}
 use Rattle.std.proofs.lemmas.Result.{err_from_is_err_and}
-use Rattle.candidate_ir.specs.Syntax.Words.{clause_tree, env_forest, pred_tree}
+use Rattle.ir_trees.specs.Syntax.Words.{clause_tree, env_forest, pred_tree}
 use Rattle.candidate_eval.specs.declared.eval.certainty.Certainty.TheVariants.{Yes}
 use Rattle.candidate_eval.specs.Derivations.Judging.{judged}
 use Rattle.candidate_eval.specs.Derivations.Rules.{ask, nested}
 use Rattle.candidate_eval.proofs.Interface.Accounts.{by-stop, reaches}
 use Rattle.candidate_eval.proofs.Dynamic.Objects.{env-kept}
 use Rattle.candidate_eval.proofs.Interface.Probing.{then}
-use Rattle.candidate_ir.proofs.Instantiation.Joining.{clause-kept}
+use Rattle.ir_folds.proofs.Instantiation.Joining.{clause-kept}
 use Rattle.candidate_assembly.specs.Answers.Telling.{Told}
 use Rattle.candidate_assembly.specs.Rules.Unsizing.{bounds_met}
 use Rattle.candidate_assembly.specs.Calls.Upcasting.{upcast_by}

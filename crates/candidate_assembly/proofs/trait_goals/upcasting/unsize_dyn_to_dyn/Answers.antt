@@ -1,9 +1,9 @@
 use Rattle.std.proofs.Common.{rules, ◌≡◌, [], ◌∷◌, Err, length, map, false, true, subst, sym, ap, ◌∙◌}
 use Rattle.std.specs.Prelude.{IfSome, option_map}
 use Rattle.std.proofs.lemmas.Result.{err_from_is_err_and}
-use Rattle.candidate_ir.specs.Declarations.Context.{Context}
-use Rattle.candidate_ir.specs.Syntax.Trees.{Tree}
-use Rattle.candidate_ir.specs.Syntax.Words.{args_forest, clause_tree, env_forest, ty_tree}
+use Rattle.ir_trees.specs.Declarations.Context.{Context}
+use Rattle.ir_trees.specs.Syntax.Trees.{Tree}
+use Rattle.ir_trees.specs.Syntax.Words.{args_forest, clause_tree, env_forest, ty_tree}
 use Rattle.candidate_eval.specs.Interface.Evaluators.{Keeps}
 use Rattle.candidate_eval.specs.Derivations.Mentions.{IsBelow}
 use Rattle.candidate_eval.specs.Dynamic.ObjectRequirements.{first_tree}

@@ -1,6 +1,6 @@
 use Rattle.std.proofs.Common.{◌∙◌}
-use Rattle.candidate_ir.specs.Syntax.Words.{clause_tree, ty_tree}
-use Rattle.candidate_ir.proofs.Growth.Kept.{grows-trans}
+use Rattle.ir_trees.specs.Syntax.Words.{clause_tree, ty_tree}
+use Rattle.ir_trees.proofs.Growth.Kept.{grows-trans}
 use Rattle.candidate_eval.proofs.Dynamic.Required.{preds_read}
 use Rattle.candidate_assembly.proofs.Unsizing.DynRequirements.{region-still}
 use Rattle.candidate_assembly.proofs.Upcasting.UpcastParts.{between-is, listed-bounds, lives-read, parts-read}

@@ -1,6 +1,6 @@
 use Rattle.std.specs.Prelude.{slice_get}
 use Rattle.std.proofs.Common.{sym}
-use Rattle.candidate_ir.specs.Declarations.Context.{world}
+use Rattle.ir_trees.specs.Declarations.Context.{world}
 use Rattle.candidate_eval.proofs.Frontier.Carry.{none_passes}
 use Rattle.candidate_eval.proofs.coherence.table.passes.Goals as goal
 

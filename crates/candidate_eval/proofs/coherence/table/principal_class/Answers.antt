@@ -1,6 +1,6 @@
 use Rattle.std.proofs.Common.{sym, ◌∙◌, ap}
-use Rattle.candidate_ir.specs.Declarations.Context.{world}
-use Rattle.candidate_ir.specs.Syntax.Words.{preds_forest}
+use Rattle.ir_trees.specs.Declarations.Context.{world}
+use Rattle.ir_trees.specs.Syntax.Words.{preds_forest}
 use Rattle.candidate_eval.specs.Knowability.Orphan.{crate_test}
 use Rattle.candidate_eval.specs.Calls.Table.{owned_in}
 use Rattle.candidate_eval.proofs.Frontier.ShapeLemmas.{principal-some, principal-none}

@@ -1,7 +1,7 @@
 use Rattle.std.proofs.Common.{refl, sym, ◌∙◌, ap, subst}
-use Rattle.candidate_ir.specs.declared.ir.kinds.TyKind.{TyKind}
-use Rattle.candidate_ir.specs.Declarations.Context.{world}
-use Rattle.candidate_ir.specs.Syntax.Words.{KindFits, kind_tree}
+use Rattle.ir_trees.specs.declared.ir.kinds.TyKind.{TyKind}
+use Rattle.ir_trees.specs.Declarations.Context.{world}
+use Rattle.ir_trees.specs.Syntax.Words.{KindFits, kind_tree}
 use Rattle.candidate_eval.specs.declared.coherence.table.Shape.TheVariants as S
 use Rattle.candidate_eval.specs.Knowability.Orphan.{crate_test}
 use Rattle.candidate_eval.specs.Calls.Shapes.{IsReference, IsShape}

@@ -1,6 +1,6 @@
 use Rattle.std.proofs.Common.{true, false, Err, refl, sym, ◌∙◌, ap}
 use Rattle.std.proofs.lemmas.Result.{err_from_is_err_and}
-use Rattle.candidate_ir.proofs.Growth.Kept.{ty-kept}
+use Rattle.ir_trees.proofs.Growth.Kept.{ty-kept}
 use Rattle.candidate_eval.proofs.Frontier.Views.{view-general, view-other, sees-other, general-there}
 use Rattle.candidate_eval.proofs.Frontier.Calls.{values-here}
 use Rattle.candidate_eval.proofs.Frontier.Causes.{viewed-answer, viewed-itself}

@@ -1,5 +1,5 @@
 use Rattle.std.proofs.Common.{◌+◌}
-use Rattle.candidate_ir.specs.Syntax.Words.{args_forest}
+use Rattle.ir_trees.specs.Syntax.Words.{args_forest}
 use Rattle.candidate_eval.specs.Calls.Visits.{Visits, the_list}
 use Rattle.candidate_eval.proofs.Frontier.Waiting.{AreVisitedWithin, left_of, left_of_all}
 use Rattle.candidate_eval.proofs.coherence.walk.visit_args.Given as goal

@@ -1,5 +1,5 @@
 use Rattle.std.proofs.Common.{◌≡◌}
-use Rattle.candidate_ir.specs.Syntax.Words.{ty_tree}
+use Rattle.ir_trees.specs.Syntax.Words.{ty_tree}
 use Rattle.candidate_eval.proofs.Frontier.Descent.{ComesDown}
 use Rattle.candidate_eval.proofs.coherence.walk.visit_type.Given as goal
 

@@ -1,8 +1,8 @@
 use Rattle.std.proofs.Common.{◌∙◌, refl}
 use Rattle.std.proofs.lemmas.Result.{IfOk-weaker, err_from_is_err_and}
-use Rattle.candidate_ir.specs.Syntax.Nodes.{tree_at}
-use Rattle.candidate_ir.proofs.Growth.Kept.{number-kept}
-use Rattle.candidate_ir.proofs.Syntax.Lists.{below_kind}
+use Rattle.ir_trees.specs.Syntax.Nodes.{tree_at}
+use Rattle.ir_trees.proofs.Growth.Kept.{number-kept}
+use Rattle.ir_trees.proofs.Syntax.Lists.{below_kind}
 use Rattle.candidate_eval.proofs.Marks.Declared.{opened-kept, opened-list-kept, opened-row-kept}
 use Rattle.candidate_eval.proofs.Interface.Probing.{made, on-ok, then}
 use Rattle.candidate_eval.proofs.Interface.Accounts.{stays-there, stops-later, unmade-result}

@@ -1,19 +1,19 @@
 use Rattle.candidate_eval.proofs.Interface.Probing.{made, on-ok, then}
 use Rattle.std.proofs.Common.{◌≡◌, ◌∙◌, ap, subst}
-use Rattle.candidate_ir.specs.Declarations.Context.{Context}
+use Rattle.ir_trees.specs.Declarations.Context.{Context}
 use Rattle.candidate_eval.specs.Derivations.Characterization.{bound_kinds}
 use Rattle.std.proofs.lemmas.Result.{IfOk-weaker}
-use Rattle.candidate_ir.specs.Instantiation.Opening.{opened_clause}
-use Rattle.candidate_ir.specs.Syntax.Trees.{Forest}
-use Rattle.candidate_ir.specs.Syntax.Words.{clause_tree}
-use Rattle.candidate_ir.proofs.Instantiation.Joining.{clause-kept}
+use Rattle.ir_trees.specs.Instantiation.Opening.{opened_clause}
+use Rattle.ir_trees.specs.Syntax.Trees.{Forest}
+use Rattle.ir_trees.specs.Syntax.Words.{clause_tree}
+use Rattle.ir_folds.proofs.Instantiation.Joining.{clause-kept}
 use Rattle.candidate_eval.specs.Interface.Evaluators.{kinds_listed}
 use Rattle.candidate_eval.specs.Judges.States.{fresh_variables, with_fresh_variables}
 use Rattle.candidate_eval.proofs.Dynamic.Objects.{kinds-read}
 use Rattle.candidate_eval.proofs.Interface.Accounts.{accounted-here, an-instance, reaches, unmade-result}
 use Rattle.candidate_eval.specs.Interface.Accounts.StopsBy.{accounted, no_memory}
 use Rattle.std.proofs.lemmas.Result.{err_from_is_err_and}
-use Rattle.candidate_ir.specs.Unification.Substitutions.{alone}
+use Rattle.ir_trees.specs.Unification.Substitutions.{alone}
 use Rattle.candidate_eval.proofs.eval.binders.instantiate_clause_with_infer.Goals as goal
 
 pub open_clause-requires-clause-clause : goal.open_clause-requires-clause-clause

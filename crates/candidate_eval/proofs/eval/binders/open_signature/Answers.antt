@@ -1,7 +1,7 @@
 use Rattle.std.proofs.Common.{refl, ◌∙◌}
 use Rattle.std.proofs.lemmas.Result.{err_from_is_err_and}
-use Rattle.candidate_ir.specs.Syntax.Words.{ty_tree}
-use Rattle.candidate_ir.proofs.Growth.Kept.{args-kept, grows-refl, grows-trans, ty-kept}
+use Rattle.ir_trees.specs.Syntax.Words.{ty_tree}
+use Rattle.ir_trees.proofs.Growth.Kept.{args-kept, grows-refl, grows-trans, ty-kept}
 use Rattle.candidate_eval.proofs.Marks.Declared.{opened-kept}
 use Rattle.candidate_eval.specs.Interface.Unmade.AreValues.{members}
 use Rattle.candidate_eval.specs.Interface.Unmade.IsMade.{under_binder}

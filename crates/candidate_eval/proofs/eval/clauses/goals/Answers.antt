@@ -1,7 +1,7 @@
 use Rattle.std.proofs.Common.{[], ◌∷◌, ◌++◌, List, get_or, sym, ◌∙◌, ap}
 use Rattle.std.proofs.lemmas.List.{map_more, take_all}
-use Rattle.candidate_ir.specs.declared.ir.kinds.Clause.{Clause}
-use Rattle.candidate_ir.specs.declared.ir.kinds.Goal.{Goal}
+use Rattle.ir_trees.specs.declared.ir.kinds.Clause.{Clause}
+use Rattle.ir_trees.specs.declared.ir.kinds.Goal.{Goal}
 use Rattle.candidate_eval.specs.Dynamic.ObjectRequirements.{goals_in}
 use Rattle.candidate_eval.proofs.Dynamic.ObjectCandidates.{goal_with}
 use Rattle.candidate_eval.proofs.eval.clauses.goals.Goals as goal

@@ -1,4 +1,4 @@
-use Rattle.candidate_ir.specs.Syntax.Words.{env_forest, ty_tree}
+use Rattle.ir_trees.specs.Syntax.Words.{env_forest, ty_tree}
 use Rattle.candidate_eval.specs.Interface.Accounts.{Question}
 use Rattle.candidate_eval.proofs.Interface.Knowing.{stopped-as-judged}
 use Rattle.candidate_eval.proofs.eval.knowing.normal_form.Goals as goal

@@ -1,10 +1,10 @@
 use Rattle.std.proofs.Common.{rules, refl, ◌≡◌, ◌≤◌, ◌∷◌, [], ◌++◌, length, ◌∙◌, ap}
-use Rattle.candidate_ir.proofs.Instantiation.Joining.{clause-kept}
-use Rattle.candidate_ir.proofs.Growth.Made.{IsClause-listed}
+use Rattle.ir_folds.proofs.Instantiation.Joining.{clause-kept}
+use Rattle.ir_trees.proofs.Growth.Made.{IsClause-listed}
 use Rattle.std.proofs.lemmas.Result.{IfErr-weaker, IfOk-weaker, err_from_is_err_and}
 use Rattle.std.specs.Prelude.{slice_index_or}
-use Rattle.candidate_ir.specs.declared.ir.kinds.Clause.{Clause}
-use Rattle.candidate_ir.specs.Syntax.Words.{clause_list_forest, clause_tree}
+use Rattle.ir_trees.specs.declared.ir.kinds.Clause.{Clause}
+use Rattle.ir_trees.specs.Syntax.Words.{clause_list_forest, clause_tree}
 use Rattle.candidate_eval.specs.Judges.States.{resolved}
 use Rattle.candidate_eval.proofs.Interface.Probing.{made, then}
 use Rattle.candidate_eval.proofs.Dynamic.Required.{all_gathered, more_gathered, pushed_fit, pushed_trees}

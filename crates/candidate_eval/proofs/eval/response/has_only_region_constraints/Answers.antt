@@ -1,5 +1,5 @@
 use Rattle.std.proofs.Common.{sym, ap, ◌∙◌}
-use Rattle.candidate_ir.proofs.Syntax.Members.{member-kind}
+use Rattle.ir_trees.proofs.Syntax.Members.{member-kind}
 use Rattle.candidate_eval.specs.Outcomes.Responses.{are_open}
 use Rattle.candidate_eval.proofs.Outcomes.Merging.{open_out}
 use Rattle.candidate_eval.proofs.eval.response.has_only_region_constraints.Goals as goal

@@ -1,5 +1,5 @@
 use Rattle.std.proofs.Common.{◌≡◌, drop}
-use Rattle.candidate_ir.specs.Syntax.Words.{list_forest}
+use Rattle.ir_trees.specs.Syntax.Words.{list_forest}
 use Rattle.candidate_eval.specs.Outcomes.Responses.{are_open}
 use Rattle.candidate_eval.proofs.eval.response.has_only_region_constraints.Given as goal
 

@@ -1,6 +1,6 @@
 use Rattle.std.proofs.Common.{◌≡◌, ℕ, ◌<◌, slice_index_or}
-use Rattle.candidate_ir.specs.declared.ir.kinds.Clause.{Clause}
-use Rattle.candidate_ir.specs.Syntax.Words.{clause_tree}
+use Rattle.ir_trees.specs.declared.ir.kinds.Clause.{Clause}
+use Rattle.ir_trees.specs.Syntax.Words.{clause_tree}
 use Rattle.candidate_eval.proofs.eval.response.same_clauses.Given as goal
 
 -- the clauses before are equal in their places

@@ -1,5 +1,5 @@
 use Rattle.std.proofs.Common.{rules, ◌≡◌}
-use Rattle.candidate_ir.specs.declared.ir.kinds.ClauseKind.TheVariants as K
+use Rattle.ir_trees.specs.declared.ir.kinds.ClauseKind.TheVariants as K
 use Rattle.candidate_eval.proofs.Dynamic.Objects.{about_yes}
 use Rattle.candidate_eval.proofs.objects.object.bound_about.Goals as goal
 

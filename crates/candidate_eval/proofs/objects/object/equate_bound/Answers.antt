@@ -1,9 +1,9 @@
 use Rattle.candidate_eval.proofs.Interface.Probing.{then}
 use Rattle.std.proofs.Common.{sym, ◌∙◌, ap, subst}
 use Rattle.std.proofs.lemmas.Result.{err_from_is_err_and}
-use Rattle.candidate_ir.specs.Declarations.Context.{Context}
-use Rattle.candidate_ir.specs.Syntax.Words.{args_forest, clause_tree, env_forest}
-use Rattle.candidate_ir.proofs.Growth.Kept.{args-kept, ty-kept}
+use Rattle.ir_trees.specs.Declarations.Context.{Context}
+use Rattle.ir_trees.specs.Syntax.Words.{args_forest, clause_tree, env_forest}
+use Rattle.ir_trees.proofs.Growth.Kept.{args-kept, ty-kept}
 use Rattle.candidate_eval.specs.Dynamic.Objects.{IsBound, term_in}
 use Rattle.candidate_eval.proofs.Dynamic.Objects.{env-kept, instance-accepted}
 use Rattle.candidate_eval.proofs.Interface.Accounts.{accounted-here, accounted-later, by-stop, reaches}

@@ -1,8 +1,8 @@
 use Rattle.candidate_eval.proofs.Interface.Probing.{keeps-trans}
 use Rattle.std.proofs.Common.{rules, ◌≡◌, true, false, [], ◌∷◌, ◌++◌, refl, ◌∙◌, ap, subst}
-use Rattle.candidate_ir.specs.Syntax.Trees.{Forest}
-use Rattle.candidate_ir.specs.Syntax.Words.{env_forest, clause_tree}
-use Rattle.candidate_ir.proofs.Growth.Kept.{args-kept}
+use Rattle.ir_trees.specs.Syntax.Trees.{Forest}
+use Rattle.ir_trees.specs.Syntax.Words.{env_forest, clause_tree}
+use Rattle.ir_trees.proofs.Growth.Kept.{args-kept}
 use Rattle.candidate_eval.specs.Dynamic.Objects.{Projection, projection_at}
 use Rattle.candidate_eval.proofs.Dynamic.Objects.{env-kept}
 use Rattle.candidate_eval.proofs.Dynamic.Tries.{bound-listed, none-tried, one-found, one-passed, said-then}

@@ -1,8 +1,8 @@
 use Rattle.std.proofs.Common.{rules, ◌≡◌, true, false, length, refl, sym, ◌∙◌, ap, subst}
-use Rattle.candidate_ir.specs.Syntax.Words.{args_forest, clause_tree, env_forest}
-use Rattle.candidate_ir.specs.Syntax.Trees.{Tree}
-use Rattle.candidate_ir.proofs.Instantiation.Joining.{clause-kept}
-use Rattle.candidate_ir.proofs.Growth.Kept.{args-kept, grows-trans}
+use Rattle.ir_trees.specs.Syntax.Words.{args_forest, clause_tree, env_forest}
+use Rattle.ir_trees.specs.Syntax.Trees.{Tree}
+use Rattle.ir_folds.proofs.Instantiation.Joining.{clause-kept}
+use Rattle.ir_trees.proofs.Growth.Kept.{args-kept, grows-trans}
 use Rattle.std.specs.Prelude.{map}
 use Rattle.candidate_eval.specs.declared.eval.refusal.NoSolutionOrStop.TheVariants.{NoSolution}
 use Rattle.candidate_eval.specs.Dynamic.Objects.{IsAmbiguous, projection_at, fresh_instance, term_in}

@@ -1,9 +1,9 @@
 use Rattle.candidate_eval.proofs.Interface.Probing.{keeps-trans}
 use Rattle.std.proofs.Common.{List, All, map, sym, ◌∙◌, ap, subst}
 use Rattle.std.proofs.lemmas.Result.{err_from_is_err_and}
-use Rattle.candidate_ir.specs.declared.ir.kinds.Clause.{Clause}
-use Rattle.candidate_ir.specs.Syntax.Words.{ClauseListFits, clause_kind_tree, env_forest, preds_forest, ty_tree}
-use Rattle.candidate_ir.proofs.Growth.Kept.{grows-trans}
+use Rattle.ir_trees.specs.declared.ir.kinds.Clause.{Clause}
+use Rattle.ir_trees.specs.Syntax.Words.{ClauseListFits, clause_kind_tree, env_forest, preds_forest, ty_tree}
+use Rattle.ir_trees.proofs.Growth.Kept.{grows-trans}
 use Rattle.candidate_eval.specs.Interface.Evaluators.{IsGoal, goal_of}
 use Rattle.candidate_eval.specs.Dynamic.Objects.{with_instance}
 use Rattle.candidate_eval.specs.Dynamic.ObjectRequirements.{first_tree, fresh_arguments, goal_in, reference_clause}

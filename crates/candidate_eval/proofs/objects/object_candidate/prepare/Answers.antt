@@ -1,12 +1,12 @@
 use Rattle.candidate_eval.proofs.Interface.Probing.{made, then}
 use Rattle.std.proofs.Common.{◌≡◌, ◌∙◌, ap, subst}
-use Rattle.candidate_ir.specs.declared.ir.kinds.TraitId.{TraitId}
-use Rattle.candidate_ir.specs.Declarations.Context.{Context}
-use Rattle.candidate_ir.specs.Declarations.References.{IsWellFormed}
-use Rattle.candidate_ir.specs.Syntax.Trees.{Forest, Tree}
-use Rattle.candidate_ir.specs.Validity.WellFormed.{IsWellFormedTable}
-use Rattle.candidate_ir.specs.Syntax.Words.{IsTy, args_forest, clause_kind_tree, preds_forest, ty_tree}
-use Rattle.candidate_ir.proofs.Growth.Kept.{args-kept, grows-trans, preds-kept, ty-kept}
+use Rattle.ir_trees.specs.declared.ir.kinds.TraitId.{TraitId}
+use Rattle.ir_trees.specs.Declarations.Context.{Context}
+use Rattle.ir_trees.specs.Declarations.References.{IsWellFormed}
+use Rattle.ir_trees.specs.Syntax.Trees.{Forest, Tree}
+use Rattle.ir_trees.specs.Validity.WellFormed.{IsWellFormedTable}
+use Rattle.ir_trees.specs.Syntax.Words.{IsTy, args_forest, clause_kind_tree, preds_forest, ty_tree}
+use Rattle.ir_trees.proofs.Growth.Kept.{args-kept, grows-trans, preds-kept, ty-kept}
 use Rattle.candidate_eval.specs.Dynamic.ObjectRequirements.{first_tree, fresh_arguments, reference_clause}
 use Rattle.candidate_eval.specs.Dynamic.Replacing.{clauses_at}
 use Rattle.candidate_eval.specs.Dynamic.Required.{AreRequirements, own_bounds}

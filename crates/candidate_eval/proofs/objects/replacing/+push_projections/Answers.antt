@@ -1,9 +1,9 @@
 use Rattle.std.proofs.Common.{rules, ◌≡◌, ◌++◌, ◌∷◌, [], None, sym, ◌∙◌, ap, arith, ◌+◌, ◌≤◌, suc, ℕ}
-use Rattle.candidate_ir.specs.declared.ir.heads.Flag.TheVariants as F
-use Rattle.candidate_ir.specs.Syntax.Nodes.{tree_at}
-use Rattle.candidate_ir.specs.Syntax.Trees.{count, holds, is_alias, skip, tree}
-use Rattle.candidate_ir.specs.Syntax.Words.{ty_tree}
-use Rattle.candidate_ir.proofs.Instantiation.Folding.{or-right}
+use Rattle.ir_trees.specs.declared.ir.heads.Flag.TheVariants as F
+use Rattle.ir_trees.specs.Syntax.Nodes.{tree_at}
+use Rattle.ir_trees.specs.Syntax.Trees.{count, holds, is_alias, skip, tree}
+use Rattle.ir_trees.specs.Syntax.Words.{ty_tree}
+use Rattle.ir_trees.proofs.Instantiation.Folding.{or-right}
 use Rattle.candidate_eval.specs.Dynamic.Replacing.{AreProjections, clauses_at, finds_own, projections, projections_at}
 use Rattle.candidate_eval.proofs.Dynamic.Replacing.{none-added, none-found, one-below, one-found}
 use Rattle.candidate_eval.proofs.Interface.StopKinds.{child-beyond, growth_noted, wide-node}

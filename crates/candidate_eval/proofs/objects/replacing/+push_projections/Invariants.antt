@@ -1,6 +1,6 @@
 use Rattle.std.proofs.Common.{◌≡◌, ◌≤◌, ◌++◌}
-use Rattle.candidate_ir.specs.Syntax.Nodes.{tree_at}
-use Rattle.candidate_ir.specs.Syntax.Trees.{count, skip}
+use Rattle.ir_trees.specs.Syntax.Nodes.{tree_at}
+use Rattle.ir_trees.specs.Syntax.Trees.{count, skip}
 use Rattle.candidate_eval.specs.Dynamic.Replacing.{AreProjections, finds_own, projections, projections_at}
 use Rattle.candidate_eval.proofs.objects.replacing.+push_projections.Given as goal
 

@@ -1,16 +1,16 @@
 use Rattle.std.proofs.Common.{rules, ◌≡◌, refl, sym, ◌∙◌, ap}
 use Rattle.std.specs.Prelude.{option_map}
-use Rattle.candidate_ir.specs.Instantiation.Folds.{arg_tree, here}
-use Rattle.candidate_ir.specs.Validity.WellFormed.{TypesFit}
-use Rattle.candidate_ir.specs.Syntax.Words.{clause_tree, ty_tree}
-use Rattle.candidate_ir.proofs.Traversal.FoldLaws.{reached-keeps}
-use Rattle.candidate_ir.proofs.Growth.Kept.{grows-refl, ty-kept}
+use Rattle.ir_trees.specs.Instantiation.Folds.{arg_tree, here}
+use Rattle.ir_trees.specs.Validity.WellFormed.{TypesFit}
+use Rattle.ir_trees.specs.Syntax.Words.{clause_tree, ty_tree}
+use Rattle.ir_folds.proofs.Traversal.FoldLaws.{reached-keeps}
+use Rattle.ir_trees.proofs.Growth.Kept.{grows-refl, ty-kept}
 use Rattle.candidate_eval.specs.Dynamic.Replacing.{answered, finds_own, left_by, types_at, clauses_at}
 use Rattle.candidate_eval.proofs.Dynamic.Filling.{clause-fill, clause-without-terms, empty-list, left-by-fit, ok-then, reached-grows, said-at-start}
 use Rattle.candidate_eval.proofs.Dynamic.Replacing.{clause-none, unasked-none}
 use Rattle.candidate_eval.proofs.Outcomes.Responding.{clauses-kept}
-use Rattle.candidate_ir.specs.Syntax.Trees.{ClauseKind}
-use Rattle.candidate_ir.proofs.Syntax.Lists.{below_kind}
+use Rattle.ir_trees.specs.Syntax.Trees.{ClauseKind}
+use Rattle.ir_trees.proofs.Syntax.Lists.{below_kind}
 use Rattle.candidate_eval.proofs.Interface.Unmade.{fold-unmade}
 use Rattle.candidate_eval.proofs.Builtins.Types.{types_kept}
 use Rattle.candidate_eval.proofs.objects.replacing.fill.Goals as goal

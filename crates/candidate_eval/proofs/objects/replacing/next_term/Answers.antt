@@ -1,5 +1,5 @@
 use Rattle.std.proofs.Common.{rules, ◌≡◌, ◌∷◌, subst}
-use Rattle.candidate_ir.specs.Validity.WellFormed.{TypesFit}
+use Rattle.ir_trees.specs.Validity.WellFormed.{TypesFit}
 use Rattle.candidate_eval.proofs.Dynamic.Replacing.{first-type-fits, is-a-type}
 use Rattle.candidate_eval.proofs.objects.replacing.next_term.Goals as goal
 

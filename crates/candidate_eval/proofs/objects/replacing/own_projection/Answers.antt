@@ -1,8 +1,8 @@
 use Rattle.std.proofs.Common.{rules, ◌≡◌, Bool, Some, ◌∙◌, ap}
-use Rattle.candidate_ir.specs.declared.ir.kinds.GenericArg.{GenericArg}
-use Rattle.candidate_ir.specs.declared.ir.kinds.GenericArg.TheVariants as G
-use Rattle.candidate_ir.specs.Instantiation.Folds.{arg_tree}
-use Rattle.candidate_ir.specs.Syntax.Words.{args_forest}
+use Rattle.ir_trees.specs.declared.ir.kinds.GenericArg.{GenericArg}
+use Rattle.ir_trees.specs.declared.ir.kinds.GenericArg.TheVariants as G
+use Rattle.ir_trees.specs.Instantiation.Folds.{arg_tree}
+use Rattle.ir_trees.specs.Syntax.Words.{args_forest}
 use Rattle.candidate_eval.specs.Dynamic.Replacing.{alias_in, finds_own, projection_if}
 use Rattle.candidate_eval.proofs.Dynamic.Replacing.{alias-args, no-type-kind, not-type, own-found}
 use Rattle.candidate_eval.proofs.objects.replacing.own_projection.Goals as goal

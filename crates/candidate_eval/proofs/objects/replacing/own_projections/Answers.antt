@@ -1,6 +1,6 @@
 use Rattle.std.proofs.Common.{refl}
-use Rattle.candidate_ir.specs.Syntax.Trees.{ClauseKind}
-use Rattle.candidate_ir.proofs.Syntax.Lists.{below_kind}
+use Rattle.ir_trees.specs.Syntax.Trees.{ClauseKind}
+use Rattle.ir_trees.proofs.Syntax.Lists.{below_kind}
 use Rattle.candidate_eval.proofs.objects.replacing.own_projections.Goals as goal
 
 pub push_projections-requires-clause-number : goal.push_projections-requires-clause-number

@@ -1,5 +1,5 @@
 use Rattle.std.proofs.Common.{◌≡◌}
-use Rattle.candidate_ir.specs.Syntax.Words.{env_forest}
+use Rattle.ir_trees.specs.Syntax.Words.{env_forest}
 use Rattle.candidate_eval.specs.Dynamic.Replacing.{clauses_at}
 use Rattle.candidate_eval.specs.Interface.Evaluators.{NoFault}
 use Rattle.candidate_eval.proofs.Dynamic.Picking.{PickedSoFar}

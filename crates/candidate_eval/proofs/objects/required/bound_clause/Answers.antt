@@ -1,10 +1,10 @@
-use Rattle.candidate_ir.proofs.Growth.Kept.{grows-trans}
+use Rattle.ir_trees.proofs.Growth.Kept.{grows-trans}
 use Rattle.std.proofs.Common.{◌≡◌, List, ◌∙◌, ap, subst}
 use Rattle.std.specs.Prelude.{IfOk}
-use Rattle.candidate_ir.specs.declared.ir.kinds.GenericArg.{GenericArg}
-use Rattle.candidate_ir.specs.Declarations.Context.{Context}
-use Rattle.candidate_ir.specs.Syntax.Trees.{Tree, tree}
-use Rattle.candidate_ir.specs.Syntax.Words.{args_forest, clause_tree, list_forest, ty_tree}
+use Rattle.ir_trees.specs.declared.ir.kinds.GenericArg.{GenericArg}
+use Rattle.ir_trees.specs.Declarations.Context.{Context}
+use Rattle.ir_trees.specs.Syntax.Trees.{Tree, tree}
+use Rattle.ir_trees.specs.Syntax.Words.{args_forest, clause_tree, list_forest, ty_tree}
 use Rattle.candidate_eval.proofs.Dynamic.Required.{said_clause, said_fits, said_takes, said_tree}
 use Rattle.std.proofs.lemmas.Result.{err_from_is_err_and}
 use Rattle.std.proofs.lemmas.Result.{IfErr-weaker}

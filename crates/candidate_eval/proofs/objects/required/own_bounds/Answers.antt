@@ -1,9 +1,9 @@
 use Rattle.std.proofs.Common.{rules, ◌≤◌, [], ◌++◌, List, length, refl, ◌∙◌, ap}
 use Rattle.std.specs.Prelude.{map}
-use Rattle.candidate_ir.specs.Syntax.Trees.{Tree}
-use Rattle.candidate_ir.specs.Syntax.Words.{clause_tree}
-use Rattle.candidate_ir.proofs.Growth.Kept.{ty-kept, grows-trans}
-use Rattle.candidate_ir.proofs.Growth.Made.{IsPred-listed}
+use Rattle.ir_trees.specs.Syntax.Trees.{Tree}
+use Rattle.ir_trees.specs.Syntax.Words.{clause_tree}
+use Rattle.ir_trees.proofs.Growth.Kept.{ty-kept, grows-trans}
+use Rattle.ir_trees.proofs.Growth.Made.{IsPred-listed}
 use Rattle.candidate_eval.proofs.Dynamic.Required.{all_gathered, all_said, bound_said, more_gathered, none_added, preds_read, said_stays}
 use Rattle.std.proofs.lemmas.Result.{err_from_is_err_and}
 use Rattle.candidate_eval.specs.Interface.Unmade.IsUnmade.{no_memory}

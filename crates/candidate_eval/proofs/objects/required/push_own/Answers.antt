@@ -1,9 +1,9 @@
 use Rattle.std.proofs.Common.{rules, ◌≡◌, ◌∷◌, ◌++◌, [], List, ◌∙◌, ap, subst}
 use Rattle.std.specs.Prelude.{map}
-use Rattle.candidate_ir.specs.Declarations.Context.{Context}
-use Rattle.candidate_ir.specs.Declarations.References.{IsWellFormed}
-use Rattle.candidate_ir.specs.Syntax.Trees.{Tree}
-use Rattle.candidate_ir.specs.Syntax.Words.{clause_tree, pred_kind_tree, pred_tree, ty_tree}
+use Rattle.ir_trees.specs.Declarations.Context.{Context}
+use Rattle.ir_trees.specs.Declarations.References.{IsWellFormed}
+use Rattle.ir_trees.specs.Syntax.Trees.{Tree}
+use Rattle.ir_trees.specs.Syntax.Words.{clause_tree, pred_kind_tree, pred_tree, ty_tree}
 use Rattle.candidate_eval.specs.Dynamic.Required.{as_bound, said_of}
 use Rattle.candidate_eval.proofs.Dynamic.Required.{projection_said, projection_takes, pushed_fit, pushed_trees}
 use Rattle.std.proofs.lemmas.Result.{err_from_is_err_and}

@@ -2,12 +2,12 @@ use Rattle.std.proofs.Common.{rules, ◌≤◌, ◌++◌, List, length, refl, sy
 use Rattle.std.specs.Prelude.{map}
 use Rattle.std.specs.List.{flat_map}
 use Rattle.std.proofs.lemmas.List.{append-nil}
-use Rattle.candidate_ir.specs.declared.ir.kinds.AssocId.{AssocId}
-use Rattle.candidate_ir.specs.Declarations.Context.{Context}
-use Rattle.candidate_ir.specs.Syntax.Trees.{Tree}
-use Rattle.candidate_ir.specs.Validity.WellFormed.{IsWellFormedTable}
-use Rattle.candidate_ir.specs.Syntax.Words.{args_forest, clause_tree}
-use Rattle.candidate_ir.proofs.Growth.Kept.{args-kept, grows-refl, grows-trans}
+use Rattle.ir_trees.specs.declared.ir.kinds.AssocId.{AssocId}
+use Rattle.ir_trees.specs.Declarations.Context.{Context}
+use Rattle.ir_trees.specs.Syntax.Trees.{Tree}
+use Rattle.ir_trees.specs.Validity.WellFormed.{IsWellFormedTable}
+use Rattle.ir_trees.specs.Syntax.Words.{args_forest, clause_tree}
+use Rattle.ir_trees.proofs.Growth.Kept.{args-kept, grows-refl, grows-trans}
 use Rattle.candidate_eval.specs.Dynamic.Required.{items_of}
 use Rattle.candidate_eval.proofs.Dynamic.Required.{all_gathered, more_gathered, none_added}
 use Rattle.candidate_eval.proofs.Dynamic.Requiring.{all_items, item_left, item_there, item_with, required_now}

@@ -1,6 +1,6 @@
 use Rattle.std.proofs.Common.{◌≡◌, take}
 use Rattle.std.specs.List.{flat_map}
-use Rattle.candidate_ir.specs.Syntax.Words.{args_forest}
+use Rattle.ir_trees.specs.Syntax.Words.{args_forest}
 use Rattle.candidate_eval.proofs.Dynamic.Required.{AddedSoFar}
 use Rattle.candidate_eval.proofs.Dynamic.Requiring.{item_with}
 use Rattle.candidate_eval.proofs.objects.required.push_required.Given as goal

@@ -1,14 +1,14 @@
 use Rattle.std.proofs.Common.{rules, ◌≡◌, false, subst}
 use Rattle.std.specs.Prelude.{IfOk}
-use Rattle.candidate_ir.specs.Instantiation.Folding.{lacks_argument}
-use Rattle.candidate_ir.specs.Syntax.Trees.{Tree, tree_holds}
-use Rattle.candidate_ir.specs.Syntax.Words.{args_forest, clause_tree}
+use Rattle.ir_trees.specs.Instantiation.Folding.{lacks_argument}
+use Rattle.ir_trees.specs.Syntax.Trees.{Tree, tree_holds}
+use Rattle.ir_trees.specs.Syntax.Words.{args_forest, clause_tree}
 use Rattle.candidate_eval.proofs.Dynamic.Requiring.{all_there}
 use Rattle.std.proofs.lemmas.Result.{IfErr-weaker}
-use Rattle.candidate_ir.specs.Syntax.Trees.{ClauseKind}
+use Rattle.ir_trees.specs.Syntax.Trees.{ClauseKind}
 use Rattle.candidate_eval.specs.Interface.Unmade.IsMade.{with_arguments}
 use Rattle.candidate_eval.specs.Interface.Unmade.IsUnmade.{of_trees}
-use Rattle.candidate_ir.proofs.Growth.Kept.{grows-refl}
+use Rattle.ir_trees.proofs.Growth.Kept.{grows-refl}
 use Rattle.candidate_eval.proofs.objects.required.with_arguments.Goals as goal
 
 pub returns-then-has_arguments-clause-tree : goal.returns-then-has_arguments-clause-tree

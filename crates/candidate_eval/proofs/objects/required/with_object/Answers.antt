@@ -1,5 +1,5 @@
 use Rattle.std.proofs.Common.{rules, ◌≡◌, ◌∷◌}
-use Rattle.candidate_ir.specs.declared.ir.kinds.GenericArg.TheVariants as G
+use Rattle.ir_trees.specs.declared.ir.kinds.GenericArg.TheVariants as G
 use Rattle.candidate_eval.proofs.Dynamic.Required.{object_first}
 use Rattle.candidate_eval.proofs.objects.required.with_object.Goals as goal
 

@@ -1,4 +1,4 @@
-use Rattle.candidate_ir.proofs.Growth.Kept.{args-kept}
+use Rattle.ir_trees.proofs.Growth.Kept.{args-kept}
 use Rattle.candidate_eval.proofs.structural.callable.const_fn_def.Goals as goal
 
 pub returns-clause-list : goal.returns-clause-list

@@ -1,4 +1,4 @@
-use Rattle.candidate_ir.proofs.Growth.Kept.{args-kept, grows-trans}
+use Rattle.ir_trees.proofs.Growth.Kept.{args-kept, grows-trans}
 use Rattle.candidate_eval.proofs.structural.callable.instance.Goals as goal
 
 pub subst-requires-clause-args : goal.subst-requires-clause-args

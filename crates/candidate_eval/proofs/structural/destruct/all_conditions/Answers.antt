@@ -1,5 +1,5 @@
-use Rattle.candidate_ir.proofs.Growth.Kept.{grows-trans}
-use Rattle.candidate_ir.proofs.Growth.Made.{IsTy-grows}
+use Rattle.ir_trees.proofs.Growth.Kept.{grows-trans}
+use Rattle.ir_trees.proofs.Growth.Made.{IsTy-grows}
 use Rattle.candidate_eval.proofs.Builtins.Conditions.{own_kept}
 use Rattle.candidate_eval.proofs.structural.destruct.all_conditions.Goals as goal
 

@@ -1,7 +1,7 @@
-use Rattle.candidate_ir.proofs.Growth.Kept.{grows-trans}
+use Rattle.ir_trees.proofs.Growth.Kept.{grows-trans}
 use Rattle.std.proofs.Common.{◌∙◌}
 use Rattle.std.proofs.lemmas.Result.{err_from_is_err_and}
-use Rattle.candidate_ir.proofs.Growth.Made.{IsTy-grows}
+use Rattle.ir_trees.proofs.Growth.Made.{IsTy-grows}
 use Rattle.candidate_eval.proofs.Builtins.Conditions.{one_more_condition, condition_stop}
 use Rattle.candidate_eval.proofs.Builtins.Types.{ty_at}
 use Rattle.candidate_eval.proofs.structural.destruct.push_conditions.Goals as goal

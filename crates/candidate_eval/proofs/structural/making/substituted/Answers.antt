@@ -1,7 +1,7 @@
 use Rattle.std.proofs.Common.{rules, ◌≡◌, ◌∷◌, [], ◌++◌, ◌∙◌}
 use Rattle.std.proofs.lemmas.Result.{err_from_is_err_and}
-use Rattle.candidate_ir.proofs.Growth.Kept.{args-kept, grows-trans}
-use Rattle.candidate_ir.proofs.Growth.Made.{IsTy-grows}
+use Rattle.ir_trees.proofs.Growth.Kept.{args-kept, grows-trans}
+use Rattle.ir_trees.proofs.Growth.Made.{IsTy-grows}
 use Rattle.candidate_eval.proofs.Builtins.Types.{ty_at, has_now, one_more_put, put_stop}
 use Rattle.candidate_eval.proofs.structural.making.substituted.Goals as goal
 

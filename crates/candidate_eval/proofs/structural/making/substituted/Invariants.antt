@@ -1,5 +1,5 @@
 use Rattle.std.proofs.Common.{◌≡◌}
-use Rattle.candidate_ir.specs.Syntax.Words.{args_forest}
+use Rattle.ir_trees.specs.Syntax.Words.{args_forest}
 use Rattle.candidate_eval.proofs.Builtins.Types.{PutSoFar}
 use Rattle.candidate_eval.proofs.structural.making.substituted.Given as goal
 

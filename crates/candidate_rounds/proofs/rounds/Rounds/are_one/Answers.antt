@@ -1,8 +1,8 @@
 use Rattle.std.proofs.Common.{sym, ◌∙◌, ap}
 use Rattle.std.proofs.lemmas.Bool.{eqb-true}
-use Rattle.candidate_ir.specs.Instantiation.Folds.{arg_tree}
-use Rattle.candidate_ir.specs.Syntax.Nodes.{tree_at}
-use Rattle.candidate_ir.proofs.Hierarchy.Implying.{arg-kept}
+use Rattle.ir_trees.specs.Instantiation.Folds.{arg_tree}
+use Rattle.ir_trees.specs.Syntax.Nodes.{tree_at}
+use Rattle.ir_folds.proofs.Hierarchy.Implying.{arg-kept}
 use Rattle.candidate_rounds.specs.Evaluators.Known.{listing, state, tree_of}
 use Rattle.candidate_rounds.proofs.Equations.Repeating.{are-one, ready-on}
 use Rattle.candidate_rounds.proofs.Equations.Visiting.{number-on}

@@ -1,5 +1,5 @@
 use Rattle.std.proofs.Common.{◌≡◌, IfOk, ◌∙◌, subst}
-use Rattle.candidate_ir.specs.Syntax.Words.{clause_tree, env_forest}
+use Rattle.ir_trees.specs.Syntax.Words.{clause_tree, env_forest}
 use Rattle.candidate_assembly.specs.Goals.TraitGoals.{trait_goal}
 use Rattle.candidate_eval.specs.Derivations.ImplRules.{TraitGoal}
 use Rattle.candidate_eval.specs.Judges.States.{State}

@@ -1,5 +1,5 @@
 use Rattle.std.proofs.Common.{◌≡◌, ◌⊎◌, inl, ◌≤◌, [], ◌∷◌, ◌++◌, length, refl, sym, ◌∙◌, ap, subst}
-use Rattle.candidate_ir.specs.declared.ir.stop.Stop.TheVariants.{EvaluatorLimit}
+use Rattle.ir_trees.specs.declared.ir.stop.Stop.TheVariants.{EvaluatorLimit}
 use Rattle.candidate_eval.specs.Interface.Noting.{IsNotingStop}
 use Rattle.rounds_judge.specs.Table.GoalTable.{Entry, may_be_asked, most_goals}
 use Rattle.candidate_rounds.proofs.Stops.ResponseStops.{passed-on}

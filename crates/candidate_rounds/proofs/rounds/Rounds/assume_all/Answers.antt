@@ -1,5 +1,5 @@
 use Rattle.std.proofs.Common.{sym, ap, subst, ◌≡◌, ◌⊎◌, ◌≤◌, ◌<◌, length, false, arith, rules}
-use Rattle.candidate_ir.specs.Declarations.Context.{Context}
+use Rattle.ir_trees.specs.Declarations.Context.{Context}
 use Rattle.candidate_rounds.specs.Evaluators.Known.{Evaluator, listing, table_of}
 use Rattle.candidate_rounds.specs.Table.Steps.{IsStep}
 use Rattle.candidate_rounds.proofs.Snapshots.Knowing.{each-get}
@@ -11,7 +11,7 @@ use Rattle.candidate_rounds.proofs.Table.Running.{take-all}
 use Rattle.candidate_rounds.proofs.Table.Sources.{index-there, none-named, one-more-named}
 use Rattle.candidate_rounds.proofs.Table.StepStops.{assuming-stop, none-assumed-yet, one-more-assumed}
 use Rattle.candidate_rounds.proofs.Stops.ResponseStops.{passed-on}
-use Rattle.candidate_ir.specs.declared.ir.stop.Stop.TheVariants.{EvaluatorLimit}
+use Rattle.ir_trees.specs.declared.ir.stop.Stop.TheVariants.{EvaluatorLimit}
 use Rattle.candidate_eval.specs.Interface.Noting.{IsNotingStop}
 use Rattle.rounds_judge.specs.Table.GoalTable.{may_be_asked, most_goals}
 use Rattle.candidate_rounds.proofs.rounds.Rounds.assume_all.Goals as goal

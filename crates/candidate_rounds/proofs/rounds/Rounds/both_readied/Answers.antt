@@ -1,7 +1,7 @@
 use Rattle.std.proofs.Common.{subst, ◌∙◌}
 use Rattle.std.proofs.lemmas.Result.{err_from_is_err_and}
-use Rattle.candidate_ir.specs.Syntax.Trees.{Forest}
-use Rattle.candidate_ir.specs.Syntax.Words.{args_forest}
+use Rattle.ir_trees.specs.Syntax.Trees.{Forest}
+use Rattle.ir_trees.specs.Syntax.Words.{args_forest}
 use Rattle.candidate_eval.specs.Judges.States.{State}
 use Rattle.rounds_judge.specs.Aliases.Listed.{Listing}
 use Rattle.candidate_rounds.specs.Evaluators.Known.{listing, state}

@@ -1,5 +1,5 @@
 use Rattle.std.proofs.Common.{◌≡◌, ◌++◌, true, false, sym, ap, subst, ◌∙◌, refl}
-use Rattle.candidate_ir.specs.Declarations.Context.{Context}
+use Rattle.ir_trees.specs.Declarations.Context.{Context}
 use Rattle.derivations.specs.DerivedTables.{EachIsDerived}
 use Rattle.rounds_judge.specs.Table.GoalTable.{may_be_asked}
 use Rattle.candidate_assembly.proofs.Calls.Causes.{so-ok}

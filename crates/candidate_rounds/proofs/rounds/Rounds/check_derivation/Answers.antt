@@ -9,7 +9,7 @@ use Rattle.candidate_rounds.proofs.Table.Steps.{goals-back, stays-from, stays-wi
 use Rattle.candidate_rounds.specs.Table.StepStops.{AreStepsStop}
 use Rattle.candidate_rounds.proofs.Table.StepStops.{stays-aside, steps-stop-before}
 use Rattle.candidate_assembly.proofs.Calls.Causes.{so-err, so-ok}
-use Rattle.candidate_ir.specs.Syntax.Trees.{Tree}
+use Rattle.ir_trees.specs.Syntax.Trees.{Tree}
 use Rattle.candidate_rounds.specs.declared.rounds.derivation.DerivationStep.{DerivationStep}
 use Rattle.candidate_rounds.proofs.rounds.Rounds.check_derivation.Goals as goal
 

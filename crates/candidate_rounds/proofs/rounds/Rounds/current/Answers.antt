@@ -1,5 +1,5 @@
 use Rattle.std.proofs.Common.{IfErr, IfOk, ap, reverse, subst, sym, ◌∙◌, ◌≡◌}
-use Rattle.candidate_ir.specs.Instantiation.Folds.{arg_tree}
+use Rattle.ir_trees.specs.Instantiation.Folds.{arg_tree}
 use Rattle.candidate_eval.specs.Interface.Evaluators.{resolved_root}
 use Rattle.candidate_eval.specs.Judges.States.{resolved_tree}
 use Rattle.rounds_judge.specs.Aliases.Listed.{current, listed_at}

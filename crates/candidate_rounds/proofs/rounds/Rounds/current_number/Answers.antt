@@ -1,4 +1,4 @@
-use Rattle.candidate_ir.proofs.Traversal.Asking.{arg-below}
+use Rattle.ir_trees.proofs.Traversal.Asking.{arg-below}
 use Rattle.candidate_rounds.proofs.rounds.Rounds.current_number.Goals as goal
 
 pub returns-in_ok-current-in-Some-clause-inside : goal.returns-in_ok-current-in-Some-clause-inside

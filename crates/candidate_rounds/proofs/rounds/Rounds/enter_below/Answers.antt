@@ -1,8 +1,8 @@
 use Rattle.std.proofs.Common.{◌≡◌, false, [], ◌∷◌, reverse, sym, ◌∙◌, ap}
 use Rattle.std.proofs.lemmas.Bool.{eq-eqb, ne_eqb}
 use Rattle.std.proofs.lemmas.List.{append-nil}
-use Rattle.candidate_ir.specs.Syntax.Nodes.{tree_at}
-use Rattle.candidate_ir.specs.Syntax.Trees.{binders_of}
+use Rattle.ir_trees.specs.Syntax.Nodes.{tree_at}
+use Rattle.ir_trees.specs.Syntax.Trees.{binders_of}
 use Rattle.candidate_rounds.specs.declared.rounds.equating.Frame.{Frame}
 use Rattle.candidate_rounds.specs.declared.rounds.equating.Rest.{Rest}
 use Rattle.candidate_rounds.specs.Evaluators.Known.{Evaluator, state}

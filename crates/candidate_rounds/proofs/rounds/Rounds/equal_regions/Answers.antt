@@ -1,5 +1,5 @@
 use Rattle.std.proofs.Common.{◌∙◌, ap, subst}
-use Rattle.candidate_ir.specs.Syntax.Words.{region_tree}
+use Rattle.ir_trees.specs.Syntax.Words.{region_tree}
 use Rattle.candidate_rounds.specs.Evaluators.Known.{state}
 use Rattle.rounds_judge.specs.Equations.Scopes.{placed_tree}
 use Rattle.std.proofs.Common.{reverse, subst}

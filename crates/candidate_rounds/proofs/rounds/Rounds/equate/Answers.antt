@@ -1,5 +1,5 @@
 use Rattle.std.proofs.Common.{◌≡◌, sym, ◌∙◌, ap, subst}
-use Rattle.candidate_ir.proofs.Traversal.Asking.{arg-below}
+use Rattle.ir_trees.proofs.Traversal.Asking.{arg-below}
 use Rattle.candidate_rounds.specs.Evaluators.Inferences.{back_to}
 use Rattle.candidate_rounds.specs.Evaluators.Known.{HasResolvedValues}
 use Rattle.candidate_rounds.proofs.Evaluators.Going.{goes-back}

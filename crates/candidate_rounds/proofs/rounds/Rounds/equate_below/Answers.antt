@@ -1,10 +1,10 @@
 use Rattle.std.proofs.Common.{◌≡◌, ◌++◌, ◌∷◌, true, [], refl, sym, ◌∙◌, ap, subst, arith}
-use Rattle.candidate_ir.specs.Syntax.Trees.{ArgumentsKind}
-use Rattle.candidate_ir.proofs.Syntax.Lists.{below_kind}
+use Rattle.ir_trees.specs.Syntax.Trees.{ArgumentsKind}
+use Rattle.ir_trees.proofs.Syntax.Lists.{below_kind}
 use Rattle.candidate_rounds.specs.declared.rounds.equating.Frame.{Frame}
 use Rattle.candidate_rounds.specs.Calls.Frames.{AreFrames, pairs_of}
 use Rattle.candidate_rounds.proofs.Stops.EquatingStops.{question, each-stop}
-use Rattle.candidate_ir.specs.Syntax.Words.{args_forest}
+use Rattle.ir_trees.specs.Syntax.Words.{args_forest}
 use Rattle.candidate_rounds.specs.Evaluators.Known.{listing, state}
 use Rattle.candidate_rounds.specs.Evaluators.Stopping.{IsEquationStop, IsUnifyingStop, begun, not_begun}
 use Rattle.candidate_rounds.proofs.rounds.Rounds.equate_below.Goals as goal

@@ -1,7 +1,7 @@
 use Rattle.std.proofs.Common.{◌≡◌, ℕ, [], reverse, sym, ◌∙◌, ap, subst, ◌∷◌}
 use Rattle.std.proofs.lemmas.Result.{err_from_is_err_and}
-use Rattle.candidate_ir.specs.Syntax.Nodes.{tree_at}
-use Rattle.candidate_ir.specs.Unification.Substitutions.{alone}
+use Rattle.ir_trees.specs.Syntax.Nodes.{tree_at}
+use Rattle.ir_trees.specs.Unification.Substitutions.{alone}
 use Rattle.candidate_rounds.specs.declared.rounds.equating.Rest.{Rest}
 use Rattle.rounds_judge.specs.Equations.Equating.{equated, met, unified}
 use Rattle.candidate_rounds.specs.Calls.Frames.{pairs_of}
@@ -10,7 +10,7 @@ use Rattle.rounds_judge.specs.Aliases.Listed.{current}
 use Rattle.candidate_rounds.proofs.Evaluators.Going.{goes-listing, goes-trans}
 use Rattle.rounds_judge.proofs.Equations.Stepping.{equated-left, equated-refused}
 use Rattle.candidate_rounds.proofs.Equations.Visiting.{ok-from, refused-from}
-use Rattle.candidate_ir.specs.Syntax.Trees.{none}
+use Rattle.ir_trees.specs.Syntax.Trees.{none}
 use Rattle.candidate_rounds.specs.Evaluators.Stopping.{IsLookStop, IsUnifyingStop, begun, later, at_once}
 use Rattle.candidate_rounds.proofs.Stops.EquatingStops.{each-stop, first-left, stops-onto, through}
 use Rattle.candidate_rounds.proofs.Evaluators.Between.{parts}

@@ -6,7 +6,7 @@ use Rattle.candidate_rounds.proofs.Table.Steps.{steps-beside}
 use Rattle.candidate_rounds.specs.Table.StepStops.{IsSearchStop, search_memory}
 use Rattle.candidate_rounds.proofs.Table.StepStops.{search-before}
 use Rattle.candidate_rounds.proofs.Stops.ResponseStops.{passed-on}
-use Rattle.candidate_ir.specs.declared.ir.stop.Stop.TheVariants.{Memory}
+use Rattle.ir_trees.specs.declared.ir.stop.Stop.TheVariants.{Memory}
 use Rattle.candidate_rounds.proofs.rounds.Rounds.extended.Goals as goal
 
 pub returns-then-is_marked-clause-stays : goal.returns-then-is_marked-clause-stays

@@ -4,7 +4,7 @@ use Rattle.candidate_rounds.proofs.Table.Tabled.{trait-goal-stays}
 use Rattle.candidate_rounds.specs.Table.StepStops.{IsSearchStop, search_memory, search_step}
 use Rattle.candidate_rounds.proofs.Table.StepStops.{memory-search, search-before}
 use Rattle.candidate_rounds.proofs.Stops.ResponseStops.{passed-on}
-use Rattle.candidate_ir.specs.declared.ir.stop.Stop.TheVariants.{Memory}
+use Rattle.ir_trees.specs.declared.ir.stop.Stop.TheVariants.{Memory}
 use Rattle.candidate_rounds.proofs.rounds.Rounds.fewest.Goals as goal
 
 pub loop-back-init : goal.loop-back-init

@@ -7,7 +7,7 @@ use Rattle.candidate_rounds.proofs.Table.Tabled.{tabled-grown}
 use Rattle.candidate_rounds.specs.Table.StepStops.{IsSearchStop, search_memory}
 use Rattle.candidate_rounds.proofs.Table.StepStops.{search-before}
 use Rattle.candidate_rounds.proofs.Stops.ResponseStops.{passed-on}
-use Rattle.candidate_ir.specs.declared.ir.stop.Stop.TheVariants.{Memory}
+use Rattle.ir_trees.specs.declared.ir.stop.Stop.TheVariants.{Memory}
 use Rattle.candidate_rounds.proofs.rounds.Rounds.find_steps.Goals as goal
 
 pub returns-in_err-found-clause-stays : goal.returns-in_err-found-clause-stays

@@ -1,8 +1,8 @@
 use Rattle.std.proofs.Common.{map, refl, sym, ap, subst, ◌∙◌}
 use Rattle.std.proofs.lemmas.Result.{err_from_is_err_and}
-use Rattle.candidate_ir.specs.Declarations.Context.{Context}
-use Rattle.candidate_ir.specs.Syntax.Words.{ClauseListFits, args_forest, clause_tree}
-use Rattle.candidate_ir.proofs.Growth.Kept.{args-kept}
+use Rattle.ir_trees.specs.Declarations.Context.{Context}
+use Rattle.ir_trees.specs.Syntax.Words.{ClauseListFits, args_forest, clause_tree}
+use Rattle.ir_trees.proofs.Growth.Kept.{args-kept}
 use Rattle.candidate_eval.specs.Outcomes.ResponseTrees.{IsResponse, response_of}
 use Rattle.candidate_eval.specs.Judges.States.{valued, valued_tree}
 use Rattle.candidate_rounds.specs.Calls.Giving.{AreConstraintsStop, lift_of, with_constraints}

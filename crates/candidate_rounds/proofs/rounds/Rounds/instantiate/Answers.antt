@@ -1,8 +1,8 @@
 use Rattle.std.proofs.Common.{◌≡◌, IfOk, reverse, ◌∙◌, ap, subst}
-use Rattle.candidate_ir.specs.Instantiation.Opening.{opened_clause}
-use Rattle.candidate_ir.specs.Syntax.Trees.{Forest, Tree}
-use Rattle.candidate_ir.specs.Syntax.Words.{args_forest, clause_tree}
-use Rattle.candidate_ir.proofs.Instantiation.Joining.{clause-kept}
+use Rattle.ir_trees.specs.Instantiation.Opening.{opened_clause}
+use Rattle.ir_trees.specs.Syntax.Trees.{Forest, Tree}
+use Rattle.ir_trees.specs.Syntax.Words.{args_forest, clause_tree}
+use Rattle.ir_folds.proofs.Instantiation.Joining.{clause-kept}
 use Rattle.candidate_eval.specs.Interface.Evaluators.{kinds_listed, rigid}
 use Rattle.candidate_rounds.specs.Evaluators.Known.{state}
 use Rattle.candidate_rounds.proofs.Obligations.Trying.{instantiated-state, instantiated-tree, on-ok}
@@ -10,7 +10,7 @@ use Rattle.candidate_rounds.proofs.Stops.SettlingStops.{instance-stop}
 use Rattle.candidate_rounds.proofs.Evaluators.Going.{goes-trans}
 use Rattle.std.proofs.Common.{sym}
 use Rattle.std.specs.Prelude.{IfErr}
-use Rattle.candidate_ir.specs.Syntax.Words.{IsArgs, IsClause}
+use Rattle.ir_trees.specs.Syntax.Words.{IsArgs, IsClause}
 use Rattle.candidate_rounds.specs.Evaluators.Known.{Evaluator}
 use Rattle.candidate_rounds.specs.Evaluators.Stopping.{IsTreeStop}
 use Rattle.candidate_rounds.proofs.Evaluators.Interface.{made-goes, made-same}

@@ -1,6 +1,6 @@
 use Rattle.std.proofs.Common.{◌≡◌, true, reverse, IfOk, ◌∙◌, ap, subst}
 use Rattle.std.specs.Prelude.{IfErr}
-use Rattle.candidate_ir.specs.Syntax.Words.{clause_tree, env_forest}
+use Rattle.ir_trees.specs.Syntax.Words.{clause_tree, env_forest}
 use Rattle.candidate_eval.specs.Judges.States.{resolved}
 use Rattle.rounds_judge.specs.Table.Keys.{goal_trees, key_at, numbers_at}
 use Rattle.rounds_judge.specs.Table.TableSettling.{are_bare}

@@ -1,6 +1,6 @@
 use Rattle.std.proofs.Common.{◌≡◌, List, ◌++◌, ◌∷◌, [], length, IfOk, OnOk, ℕ, sym, ◌∙◌, ap, subst}
-use Rattle.candidate_ir.specs.declared.ir.kinds.TraitPredicate.{TraitPredicate}
-use Rattle.candidate_ir.specs.Declarations.Context.{Context}
+use Rattle.ir_trees.specs.declared.ir.kinds.TraitPredicate.{TraitPredicate}
+use Rattle.ir_trees.specs.Declarations.Context.{Context}
 use Rattle.candidate_eval.specs.Judges.States.{State}
 use Rattle.candidate_assembly.specs.Goals.KindShown.{IsGoal, trait_kind}
 use Rattle.candidate_assembly.specs.Goals.TraitGoals.{trait_goal}

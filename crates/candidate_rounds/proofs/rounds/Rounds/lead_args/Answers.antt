@@ -1,5 +1,5 @@
 use Rattle.std.proofs.Common.{ap, length, sym, subst, ◌∙◌}
-use Rattle.candidate_ir.specs.Syntax.Words.{args_forest, env_forest}
+use Rattle.ir_trees.specs.Syntax.Words.{args_forest, env_forest}
 use Rattle.candidate_eval.specs.Interface.Evaluators.{pendings_of, with_left}
 use Rattle.candidate_eval.specs.Judges.States.{State}
 use Rattle.candidate_rounds.specs.Evaluators.Following.{FollowsEquation}

@@ -1,9 +1,9 @@
 use Rattle.std.proofs.Common.{◌≡◌, subst, ◌∙◌}
-use Rattle.candidate_ir.specs.Syntax.Words.{args_forest, env_forest}
-use Rattle.candidate_ir.specs.declared.ir.kinds.Args.{Args}
-use Rattle.candidate_ir.specs.declared.ir.kinds.ParamEnv.{ParamEnv}
+use Rattle.ir_trees.specs.Syntax.Words.{args_forest, env_forest}
+use Rattle.ir_trees.specs.declared.ir.kinds.Args.{Args}
+use Rattle.ir_trees.specs.declared.ir.kinds.ParamEnv.{ParamEnv}
 use Rattle.candidate_eval.specs.Derivations.ImplRules.{TraitGoal}
-use Rattle.candidate_ir.specs.declared.ir.kinds.PredicatePolarity.TheVariants.{Positive}
+use Rattle.ir_trees.specs.declared.ir.kinds.PredicatePolarity.TheVariants.{Positive}
 use Rattle.candidate_rounds.specs.Calls.Standing.{is_strange_to}
 use Rattle.candidate_rounds.specs.Calls.Starting.{stand}
 use Rattle.candidate_rounds.specs.Evaluators.Known.{Evaluator, members_of}

@@ -1,6 +1,6 @@
 use Rattle.std.proofs.Common.{ap}
-use Rattle.candidate_ir.specs.Syntax.Nodes.{tree_at}
-use Rattle.candidate_ir.specs.Syntax.Words.{region_tree}
+use Rattle.ir_trees.specs.Syntax.Nodes.{tree_at}
+use Rattle.ir_trees.specs.Syntax.Words.{region_tree}
 use Rattle.candidate_rounds.specs.Calls.Frames.{pairs_of}
 use Rattle.candidate_rounds.specs.Evaluators.Known.{state}
 use Rattle.candidate_rounds.proofs.Equations.Framing.{frames-kept, pairs-kept}

@@ -1,5 +1,5 @@
 use Rattle.std.proofs.Common.{List, IfErr, IfOk, ◌≡◌, ap, subst}
-use Rattle.candidate_ir.specs.Syntax.Trees.{Tree}
+use Rattle.ir_trees.specs.Syntax.Trees.{Tree}
 use Rattle.candidate_eval.specs.Interface.Noting.{IsNotingStop}
 use Rattle.candidate_rounds.specs.Table.Goals.{key_seen}
 use Rattle.candidate_rounds.specs.Evaluators.Known.{Evaluator}

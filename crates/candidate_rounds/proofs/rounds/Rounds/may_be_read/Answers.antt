@@ -1,6 +1,6 @@
 use Rattle.std.proofs.Common.{◌≡◌, List, IfErr, IfOk, slice_get, Some, sym, subst, ap, ◌∙◌}
 use Rattle.candidate_rounds.specs.Table.Entries.{GoalEntry}
-use Rattle.candidate_ir.specs.Syntax.Trees.{Tree}
+use Rattle.ir_trees.specs.Syntax.Trees.{Tree}
 use Rattle.candidate_eval.specs.Interface.Noting.{IsNotingStop}
 use Rattle.candidate_rounds.specs.Table.Goals.{IsTraitGoal, Via, key_seen, verdict_seen}
 use Rattle.rounds_judge.specs.Table.GoalTable.{Entry, may_be_read}

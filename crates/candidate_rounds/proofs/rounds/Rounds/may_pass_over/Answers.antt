@@ -1,5 +1,5 @@
 use Rattle.std.proofs.Common.{◌≡◌, false, sym, subst}
-use Rattle.candidate_ir.specs.Syntax.Trees.{holds}
+use Rattle.ir_trees.specs.Syntax.Trees.{holds}
 use Rattle.rounds_judge.specs.Equations.Active.{is_active}
 use Rattle.candidate_rounds.specs.Evaluators.Known.{Evaluator, state, tree_of}
 use Rattle.candidate_rounds.proofs.rounds.Rounds.may_pass_over.Goals as goal

@@ -1,6 +1,6 @@
 use Rattle.std.proofs.Common.{◌&&◌, ap, sym, ◌∙◌}
-use Rattle.candidate_ir.specs.Instantiation.Folds.{arg_tree}
-use Rattle.candidate_ir.specs.Unification.Substitutions.{fits_sort}
+use Rattle.ir_trees.specs.Instantiation.Folds.{arg_tree}
+use Rattle.ir_trees.specs.Unification.Substitutions.{fits_sort}
 use Rattle.candidate_rounds.specs.Calls.Assigning.{allows}
 use Rattle.candidate_rounds.proofs.Equations.Assigning.{may-entry}
 use Rattle.rounds_judge.specs.Equations.Binding.{may_take}

@@ -1,5 +1,5 @@
 use Rattle.std.proofs.Common.{◌≡◌, reverse, ◌∙◌, subst}
-use Rattle.candidate_ir.specs.Syntax.Nodes.{tree_at}
+use Rattle.ir_trees.specs.Syntax.Nodes.{tree_at}
 use Rattle.candidate_rounds.specs.Calls.Frames.{pairs_of}
 use Rattle.candidate_rounds.specs.Evaluators.Known.{listing, state}
 use Rattle.candidate_rounds.proofs.Equations.Framing.{frames-kept, pairs-kept}

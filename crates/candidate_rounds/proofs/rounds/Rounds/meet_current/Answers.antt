@@ -1,7 +1,7 @@
 use Rattle.std.proofs.Common.{◌≡◌, refl, reverse, ◌∙◌, ap, subst}
-use Rattle.candidate_ir.specs.Syntax.Nodes.{tree_at}
-use Rattle.candidate_ir.specs.Syntax.Trees.{Tree}
-use Rattle.candidate_ir.proofs.Growth.Kept.{number-kept}
+use Rattle.ir_trees.specs.Syntax.Nodes.{tree_at}
+use Rattle.ir_trees.specs.Syntax.Trees.{Tree}
+use Rattle.ir_trees.proofs.Growth.Kept.{number-kept}
 use Rattle.candidate_eval.specs.Interface.Evaluators.{root_value, resolved_root}
 use Rattle.rounds_judge.specs.Equations.Equating.{met}
 use Rattle.candidate_rounds.specs.Calls.Frames.{pairs_of}

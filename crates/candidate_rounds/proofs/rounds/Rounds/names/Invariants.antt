@@ -1,4 +1,4 @@
-use Rattle.candidate_ir.specs.Syntax.Words.{args_forest}
+use Rattle.ir_trees.specs.Syntax.Words.{args_forest}
 use Rattle.candidate_rounds.proofs.Table.Giving.{NamedSoFar}
 use Rattle.rounds_judge.specs.Table.TableSettling.{own_variable}
 use Rattle.candidate_rounds.proofs.rounds.Rounds.names.Given as goal

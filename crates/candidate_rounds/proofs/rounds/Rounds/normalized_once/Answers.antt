@@ -1,6 +1,6 @@
 use Rattle.std.proofs.Common.{◌≡◌, ◌++◌, List, map, Option, Result, sym, ◌∙◌, ap, subst}
-use Rattle.candidate_ir.specs.declared.ir.stop.Stop.{Stop}
-use Rattle.candidate_ir.specs.Syntax.Trees.{Tree}
+use Rattle.ir_trees.specs.declared.ir.stop.Stop.{Stop}
+use Rattle.ir_trees.specs.Syntax.Trees.{Tree}
 use Rattle.candidate_eval.specs.declared.eval.response.CanonicalResponse.{CanonicalResponse}
 use Rattle.rounds_judge.specs.Table.GoalTable.{AreNew, GoalTable, unanswered}
 use Rattle.rounds_judge.specs.Table.Keys.{Key}

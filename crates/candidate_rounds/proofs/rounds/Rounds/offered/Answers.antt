@@ -1,7 +1,7 @@
 use Rattle.std.proofs.Common.{◌≡◌, Some, None, reverse, sym, ◌∙◌, ap, subst}
-use Rattle.candidate_ir.specs.Instantiation.Folds.{arg_tree}
-use Rattle.candidate_ir.specs.Syntax.Nodes.{tree_at}
-use Rattle.candidate_ir.specs.Unification.Substitutions.{alone}
+use Rattle.ir_trees.specs.Instantiation.Folds.{arg_tree}
+use Rattle.ir_trees.specs.Syntax.Nodes.{tree_at}
+use Rattle.ir_trees.specs.Unification.Substitutions.{alone}
 use Rattle.candidate_eval.specs.Judges.Soundness.{IsResolved}
 use Rattle.rounds_judge.specs.Equations.Binding.{bound, may_take}
 use Rattle.rounds_judge.specs.Equations.Equating.{Left, offered, value_for}

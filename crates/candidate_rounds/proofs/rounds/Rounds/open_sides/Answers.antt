@@ -1,7 +1,7 @@
 use Rattle.std.proofs.Common.{length, inl, inr, refl, subst, ◌∙◌}
 use Rattle.std.proofs.lemmas.Result.{err_from_is_err_and}
-use Rattle.candidate_ir.specs.Instantiation.Folding.{IsSubstStop}
-use Rattle.candidate_ir.specs.Syntax.Trees.{Forest}
+use Rattle.ir_trees.specs.Instantiation.Folding.{IsSubstStop}
+use Rattle.ir_trees.specs.Syntax.Trees.{Forest}
 use Rattle.candidate_eval.proofs.Dynamic.Objects.{env-kept}
 use Rattle.rounds_judge.specs.Aliases.OpenParts.{all_to_be, opened}
 use Rattle.candidate_rounds.specs.Evaluators.Stopping.{IsPairsStop, of_opening, of_pairs, of_side}

@@ -1,5 +1,5 @@
 use Rattle.std.proofs.Common.{false}
-use Rattle.candidate_ir.specs.declared.ir.heads.VariableSort.TheVariants.{General}
+use Rattle.ir_trees.specs.declared.ir.heads.VariableSort.TheVariants.{General}
 use Rattle.candidate_eval.specs.declared.eval.variable.VariableKind.TheVariants.{Term}
 use Rattle.candidate_rounds.specs.Evaluators.Inferences.{with_variable}
 use Rattle.candidate_rounds.proofs.Equations.Leading.{goes-with, sort-of-type, variable-type}

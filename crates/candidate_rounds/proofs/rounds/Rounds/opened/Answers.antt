@@ -1,7 +1,7 @@
 use Rattle.std.proofs.Common.{◌≡◌, length, refl, subst, sym}
 use Rattle.std.specs.Prelude.{IfErr, IfOk}
-use Rattle.candidate_ir.specs.Instantiation.Folding.{Answers, IsSubstStop, fold}
-use Rattle.candidate_ir.specs.Syntax.Words.{args_forest}
+use Rattle.ir_trees.specs.Instantiation.Folding.{Answers, IsSubstStop, fold}
+use Rattle.ir_trees.specs.Syntax.Words.{args_forest}
 use Rattle.rounds_judge.specs.Aliases.OpenParts.{opened}
 use Rattle.candidate_rounds.specs.Calls.Opening.{IsOpenedBy, opened_pairs}
 use Rattle.candidate_rounds.specs.Evaluators.Known.{Evaluator}

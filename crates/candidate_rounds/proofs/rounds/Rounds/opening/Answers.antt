@@ -1,11 +1,11 @@
 use Rattle.std.proofs.Common.{◌≡◌, true, [], map, ap, sym, subst, ◌∙◌}
 use Rattle.std.specs.List.{All}
 use Rattle.std.proofs.lemmas.List.Elements.{All-nil}
-use Rattle.candidate_ir.specs.Syntax.Trees.{Tree, kind_of}
+use Rattle.ir_trees.specs.Syntax.Trees.{Tree, kind_of}
 use Rattle.candidate_eval.specs.Judges.Lawful.{is_type_or_constant}
 use Rattle.std.proofs.lemmas.Result.{err_from_is_err_and}
-use Rattle.candidate_ir.specs.Syntax.Kinds.{arg_kind}
-use Rattle.candidate_ir.specs.Syntax.Words.{ListFits, args_forest, list_forest}
+use Rattle.ir_trees.specs.Syntax.Kinds.{arg_kind}
+use Rattle.ir_trees.specs.Syntax.Words.{ListFits, args_forest, list_forest}
 use Rattle.candidate_eval.specs.Interface.Evaluators.{kinds_listed}
 use Rattle.candidate_eval.specs.Interface.Noting.{IsNotingStop, refused_note}
 use Rattle.candidate_eval.specs.Judges.States.{fresh_variables, with_fresh_variables}

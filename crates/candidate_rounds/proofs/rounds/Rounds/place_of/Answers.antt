@@ -1,7 +1,7 @@
 use Rattle.std.proofs.Common.{◌≡◌, MatchOption, ap, false, subst}
 use Rattle.std.specs.List.{IsDistinct, list_any}
 use Rattle.std.specs.Map.{keys_of}
-use Rattle.candidate_ir.specs.Syntax.Table.{AreDistinct}
+use Rattle.ir_trees.specs.Syntax.Table.{AreDistinct}
 use Rattle.candidate_rounds.specs.Table.Entries.{GoalEntry, IsNumberedAt}
 use Rattle.candidate_rounds.specs.Table.Goals.{Goals, IsEntryOf, IsTraitGoal}
 use Rattle.candidate_rounds.specs.Table.KeyNumbers.{same_numbers}

@@ -1,5 +1,5 @@
 use Rattle.std.proofs.Common.{IfErr, reverse, subst}
-use Rattle.candidate_ir.specs.Syntax.Words.{region_tree}
+use Rattle.ir_trees.specs.Syntax.Words.{region_tree}
 use Rattle.rounds_judge.specs.Equations.Scopes.{placed_tree}
 use Rattle.candidate_rounds.specs.Evaluators.Known.{Evaluator}
 use Rattle.candidate_rounds.specs.Evaluators.Stopping.{IsTreeStop}

@@ -1,8 +1,8 @@
 use Rattle.std.proofs.Common.{Result, Ok, Err, length, subst}
 use Rattle.std.specs.Prelude.{IfErr}
-use Rattle.candidate_ir.specs.declared.ir.stop.Stop.{Stop}
-use Rattle.candidate_ir.specs.Instantiation.Folding.{IsSubstStop, fold}
-use Rattle.candidate_ir.specs.Syntax.Trees.{Forest}
+use Rattle.ir_trees.specs.declared.ir.stop.Stop.{Stop}
+use Rattle.ir_trees.specs.Instantiation.Folding.{IsSubstStop, fold}
+use Rattle.ir_trees.specs.Syntax.Trees.{Forest}
 use Rattle.rounds_judge.specs.Aliases.Listed.{Listing, listed}
 use Rattle.candidate_rounds.specs.Evaluators.Stopping.{types_put}
 use Rattle.candidate_rounds.proofs.Evaluators.Between.{parts}

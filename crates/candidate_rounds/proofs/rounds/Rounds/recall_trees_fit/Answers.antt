@@ -1,5 +1,5 @@
 use Rattle.std.proofs.Common.{ap, subst}
-use Rattle.candidate_ir.specs.Declarations.References.{IsWellFormed}
+use Rattle.ir_trees.specs.Declarations.References.{IsWellFormed}
 use Rattle.candidate_assembly.specs.Laws.Given.{IsCounted}
 use Rattle.candidate_rounds.specs.Evaluators.Known.{Evaluator}
 use Rattle.candidate_rounds.proofs.rounds.Rounds.recall_trees_fit.Goals as goal

@@ -1,5 +1,5 @@
 use Rattle.std.proofs.Common.{OnOk, reverse, sym, ◌∙◌, subst, ◌≡◌}
-use Rattle.candidate_ir.specs.Syntax.Words.{region_tree}
+use Rattle.ir_trees.specs.Syntax.Words.{region_tree}
 use Rattle.rounds_judge.specs.Equations.Equating.{with_equal_regions}
 use Rattle.candidate_rounds.specs.Evaluators.Known.{Evaluator, GoesOn, state, state_of}
 use Rattle.candidate_rounds.proofs.Evaluators.Going.{goes-both}

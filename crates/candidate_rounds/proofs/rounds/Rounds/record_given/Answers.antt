@@ -1,6 +1,6 @@
 use Rattle.std.proofs.Common.{map}
-use Rattle.candidate_ir.specs.Syntax.Words.{clause_tree}
-use Rattle.candidate_ir.proofs.Growth.Made.{IsClause-listed}
+use Rattle.ir_trees.specs.Syntax.Words.{clause_tree}
+use Rattle.ir_trees.proofs.Growth.Made.{IsClause-listed}
 use Rattle.candidate_rounds.specs.Calls.Giving.{AreConstraintsStop, translation_of}
 use Rattle.candidate_rounds.proofs.Table.Giving.{constraint-unput, one-recorded}
 use Rattle.candidate_rounds.proofs.Evaluators.Going.{goes-trans}

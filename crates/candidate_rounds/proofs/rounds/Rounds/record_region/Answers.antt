@@ -1,5 +1,5 @@
 use Rattle.std.proofs.Common.{reverse, sym, ◌∙◌, ap, subst}
-use Rattle.candidate_ir.specs.Syntax.Words.{IsClause, clause_tree}
+use Rattle.ir_trees.specs.Syntax.Words.{IsClause, clause_tree}
 use Rattle.candidate_rounds.specs.Evaluators.Inferences.{record_region}
 use Rattle.candidate_rounds.specs.Evaluators.Known.{Evaluator, GoesOn, state}
 use Rattle.rounds_judge.specs.Obligations.Settling.{recorded}

@@ -1,4 +1,4 @@
-use Rattle.candidate_ir.specs.Syntax.Words.{clause_tree}
+use Rattle.ir_trees.specs.Syntax.Words.{clause_tree}
 use Rattle.candidate_rounds.specs.Calls.Giving.{IsConstraintStop, no_constraint, of_constraint_put, translation_of}
 use Rattle.candidate_rounds.proofs.Evaluators.Going.{goes-trans}
 use Rattle.candidate_rounds.proofs.Stops.ResponseStops.{passed-on, refused-growth}

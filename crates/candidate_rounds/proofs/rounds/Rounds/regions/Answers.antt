@@ -1,7 +1,7 @@
 use Rattle.std.proofs.Common.{◌&&◌, refl, sym, ◌∙◌, ap}
-use Rattle.candidate_ir.specs.Syntax.Nodes.{tree_at}
-use Rattle.candidate_ir.specs.Syntax.Trees.{kind_of}
-use Rattle.candidate_ir.proofs.Syntax.Lists.{kind_of-tree_at}
+use Rattle.ir_trees.specs.Syntax.Nodes.{tree_at}
+use Rattle.ir_trees.specs.Syntax.Trees.{kind_of}
+use Rattle.ir_trees.proofs.Syntax.Lists.{kind_of-tree_at}
 use Rattle.candidate_eval.specs.Judges.Soundness.{is_region}
 use Rattle.candidate_rounds.specs.Evaluators.Known.{Evaluator}
 use Rattle.candidate_rounds.proofs.rounds.Rounds.regions.Goals as goal

@@ -1,6 +1,6 @@
 use Rattle.std.proofs.Common.{◌≡◌, ◌∙◌, ap, IfErr, OnOk, false, true, reverse, subst, sym}
-use Rattle.candidate_ir.specs.declared.ir.stop.Stop.TheVariants.{EvaluatorLimit}
-use Rattle.candidate_ir.specs.Syntax.Table.{AreDistinct}
+use Rattle.ir_trees.specs.declared.ir.stop.Stop.TheVariants.{EvaluatorLimit}
+use Rattle.ir_trees.specs.Syntax.Table.{AreDistinct}
 use Rattle.candidate_eval.specs.Interface.Noting.{IsNotingStop}
 use Rattle.candidate_rounds.specs.declared.rounds.Rounds.TheInside.{Inside}
 use Rattle.candidate_rounds.specs.Table.Goals.{IsTraitGoal, key_seen, keys_seen}

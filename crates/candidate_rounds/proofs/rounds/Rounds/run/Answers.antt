@@ -1,5 +1,5 @@
 use Rattle.std.proofs.Common.{List, Some, sym, ◌∙◌, ap, subst, arith}
-use Rattle.candidate_ir.specs.Syntax.Trees.{Tree}
+use Rattle.ir_trees.specs.Syntax.Trees.{Tree}
 use Rattle.candidate_assembly.specs.Goals.TraitGoals.{trait_goal}
 use Rattle.candidate_assembly.proofs.Calls.Causes.{so-ok}
 use Rattle.derivations.specs.DerivedTables.{AnswerIsDerived, TableIsDerived}

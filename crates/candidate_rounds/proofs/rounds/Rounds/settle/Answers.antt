@@ -1,7 +1,7 @@
 use Rattle.std.proofs.Common.{true, false, sym, ◌∙◌}
 use Rattle.std.proofs.lemmas.Result.{err_from_is_err_and}
 use Rattle.candidate_rounds.specs.Evaluators.Known.{state, reads}
-use Rattle.candidate_ir.specs.declared.ir.stop.Stop.TheVariants.{Memory}
+use Rattle.ir_trees.specs.declared.ir.stop.Stop.TheVariants.{Memory}
 use Rattle.candidate_rounds.specs.Evaluators.Stopping.{ArePassesStop, IsPassStop, pass_memory, held}
 use Rattle.candidate_rounds.proofs.Obligations.Evaluating.{gave-of-states, last-pass, passes-refused}
 use Rattle.candidate_rounds.proofs.Stops.SettlingStops.{begin-passes, growth-becomes, one-more-settled, pass-stops, refusal-passed}

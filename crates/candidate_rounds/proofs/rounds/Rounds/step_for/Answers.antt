@@ -7,7 +7,7 @@ use Rattle.candidate_rounds.proofs.Table.Tabled.{response-stays, trait-goal-stay
 use Rattle.candidate_rounds.specs.Table.StepStops.{IsSearchStop, search_memory, search_step}
 use Rattle.candidate_rounds.proofs.Table.StepStops.{memory-search, search-before}
 use Rattle.candidate_rounds.proofs.Stops.ResponseStops.{passed-on}
-use Rattle.candidate_ir.specs.declared.ir.stop.Stop.TheVariants.{Memory}
+use Rattle.ir_trees.specs.declared.ir.stop.Stop.TheVariants.{Memory}
 use Rattle.candidate_rounds.proofs.rounds.Rounds.step_for.Goals as goal
 
 pub loop-more-init : goal.loop-more-init

@@ -1,5 +1,5 @@
 use Rattle.std.proofs.Common.{take, sym, subst}
-use Rattle.candidate_ir.specs.Syntax.Table.{AreDistinct}
+use Rattle.ir_trees.specs.Syntax.Table.{AreDistinct}
 use Rattle.candidate_rounds.specs.Evaluators.Known.{Evaluator, listing}
 use Rattle.candidate_rounds.specs.Table.Sources.{AreFoundBy}
 use Rattle.candidate_rounds.proofs.Table.Sources.{step-by-source, step-refused}

@@ -1,5 +1,5 @@
 use Rattle.std.proofs.Common.{sym, ◌∙◌, ap, subst}
-use Rattle.candidate_ir.specs.Declarations.Context.{Context}
+use Rattle.ir_trees.specs.Declarations.Context.{Context}
 use Rattle.candidate_eval.specs.Interface.Evaluators.{IsGoal, pendings_of}
 use Rattle.candidate_rounds.specs.Evaluators.Known.{Each}
 use Rattle.candidate_rounds.proofs.Evaluators.Between.{parts}

@@ -1,6 +1,6 @@
 use Rattle.std.proofs.Common.{◌≡◌, reverse, subst, ◌∙◌, ap}
 use Rattle.std.specs.Prelude.{IfOk}
-use Rattle.candidate_ir.specs.Syntax.Nodes.{tree_at}
+use Rattle.ir_trees.specs.Syntax.Nodes.{tree_at}
 use Rattle.candidate_eval.specs.Judges.States.{valued, valued_tree}
 use Rattle.candidate_rounds.specs.Calls.Giving.{translation_of}
 use Rattle.candidate_rounds.specs.Evaluators.Known.{Evaluator, GoesOn, state}

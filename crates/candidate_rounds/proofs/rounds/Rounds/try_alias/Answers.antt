@@ -1,6 +1,6 @@
 use Rattle.std.proofs.Common.{◌∙◌}
-use Rattle.candidate_ir.specs.Syntax.Words.{ty_tree}
-use Rattle.candidate_ir.proofs.Growth.Kept.{ty-kept}
+use Rattle.ir_trees.specs.Syntax.Words.{ty_tree}
+use Rattle.ir_trees.proofs.Growth.Kept.{ty-kept}
 use Rattle.candidate_rounds.specs.Evaluators.Known.{listing, state}
 use Rattle.candidate_rounds.specs.Evaluators.Stopping.{IsProjectionStop, of_resolved_alias}
 use Rattle.candidate_rounds.proofs.Obligations.Evaluating.{alias-answered, answers-alike, not-listed}

@@ -1,13 +1,13 @@
 use Rattle.std.proofs.Common.{◌≡◌, refl, sym, ◌∙◌, ap, subst}
 use Rattle.std.proofs.lemmas.Result.{err_from_is_err_and}
-use Rattle.candidate_ir.specs.Syntax.Trees.{ClausesKind, none, tree, Tree}
-use Rattle.candidate_ir.specs.declared.ir.heads.Head.TheVariants as H
-use Rattle.candidate_ir.specs.declared.ir.heads.PartHead.TheVariants as P
-use Rattle.candidate_ir.specs.Syntax.Words.{IsClause, clause_tree, env_forest}
-use Rattle.candidate_ir.specs.Hierarchy.Supers.{after_first}
-use Rattle.candidate_ir.proofs.Instantiation.Joining.{clause-kept}
-use Rattle.candidate_ir.proofs.Growth.Kept.{grows-trans}
-use Rattle.candidate_ir.proofs.Growth.Made.{kind_at-grows}
+use Rattle.ir_trees.specs.Syntax.Trees.{ClausesKind, none, tree, Tree}
+use Rattle.ir_trees.specs.declared.ir.heads.Head.TheVariants as H
+use Rattle.ir_trees.specs.declared.ir.heads.PartHead.TheVariants as P
+use Rattle.ir_trees.specs.Syntax.Words.{IsClause, clause_tree, env_forest}
+use Rattle.ir_trees.specs.Hierarchy.Supers.{after_first}
+use Rattle.ir_folds.proofs.Instantiation.Joining.{clause-kept}
+use Rattle.ir_trees.proofs.Growth.Kept.{grows-trans}
+use Rattle.ir_trees.proofs.Growth.Made.{kind_at-grows}
 use Rattle.candidate_eval.specs.Derivations.Characterization.{bound_kinds}
 use Rattle.candidate_eval.specs.Interface.Evaluators.{kinds_listed, pending_of}
 use Rattle.candidate_rounds.specs.Evaluators.Known.{reads, state}

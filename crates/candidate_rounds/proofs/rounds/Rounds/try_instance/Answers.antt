@@ -1,9 +1,9 @@
 use Rattle.std.proofs.Common.{◌≡◌, Bool, IfErr, IfOk, None, Option, Some, refl, subst}
-use Rattle.candidate_ir.specs.declared.ir.heads.ClauseHead.TheVariants as Cl
-use Rattle.candidate_ir.specs.declared.ir.kinds.GenericArg.TheVariants as GenericArg
-use Rattle.candidate_ir.specs.Instantiation.Folds.{arg_tree}
-use Rattle.candidate_ir.specs.Syntax.Words.{clause_tree, env_forest, kind_tree, ty_tree}
-use Rattle.candidate_ir.specs.Hierarchy.Supers.{after_first}
+use Rattle.ir_trees.specs.declared.ir.heads.ClauseHead.TheVariants as Cl
+use Rattle.ir_trees.specs.declared.ir.kinds.GenericArg.TheVariants as GenericArg
+use Rattle.ir_trees.specs.Instantiation.Folds.{arg_tree}
+use Rattle.ir_trees.specs.Syntax.Words.{clause_tree, env_forest, kind_tree, ty_tree}
+use Rattle.ir_trees.specs.Hierarchy.Supers.{after_first}
 use Rattle.candidate_eval.specs.declared.eval.refusal.NoSolutionOrStop.TheVariants.{NoSolution}
 use Rattle.candidate_eval.specs.Judges.States.{State}
 use Rattle.candidate_rounds.specs.Evaluators.Known.{listing, reads, state}

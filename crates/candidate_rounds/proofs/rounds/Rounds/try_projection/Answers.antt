@@ -1,9 +1,9 @@
 use Rattle.std.proofs.Common.{◌≡◌, IfErr, IfOk, None, Option, Some, Bool, ◌∙◌, ap, subst}
-use Rattle.candidate_ir.specs.declared.ir.kinds.AliasTy.{AliasTy}
-use Rattle.candidate_ir.specs.declared.ir.kinds.TyKind.TheVariants as K
-use Rattle.candidate_ir.specs.Syntax.Words.{kind_tree, ty_tree}
-use Rattle.candidate_ir.specs.Syntax.Trees.{Tree}
-use Rattle.candidate_ir.proofs.Growth.Kept.{ty-kept}
+use Rattle.ir_trees.specs.declared.ir.kinds.AliasTy.{AliasTy}
+use Rattle.ir_trees.specs.declared.ir.kinds.TyKind.TheVariants as K
+use Rattle.ir_trees.specs.Syntax.Words.{kind_tree, ty_tree}
+use Rattle.ir_trees.specs.Syntax.Trees.{Tree}
+use Rattle.ir_trees.proofs.Growth.Kept.{ty-kept}
 use Rattle.candidate_eval.specs.declared.eval.refusal.NoSolutionOrStop.TheVariants.{NoSolution}
 use Rattle.candidate_eval.specs.Judges.States.{State}
 use Rattle.candidate_rounds.specs.Evaluators.Known.{listing, state}
@@ -15,9 +15,9 @@ use Rattle.candidate_rounds.proofs.Stops.SettlingStops.{projection-same, stop-be
 use Rattle.candidate_rounds.proofs.Evaluators.Between.{parts}
 use Rattle.candidate_rounds.proofs.Evaluators.Exits.{not-refused}
 use Rattle.std.proofs.Common.{reverse, sym}
-use Rattle.candidate_ir.specs.Declarations.Context.{world}
-use Rattle.candidate_ir.specs.Declarations.References.{Takes}
-use Rattle.candidate_ir.specs.Syntax.Words.{KindFits}
+use Rattle.ir_trees.specs.Declarations.Context.{world}
+use Rattle.ir_trees.specs.Declarations.References.{Takes}
+use Rattle.ir_trees.specs.Syntax.Words.{KindFits}
 use Rattle.candidate_rounds.specs.Evaluators.Known.{Evaluator}
 use Rattle.candidate_rounds.proofs.Evaluators.Interface.{made-goes, made-same}
 use Rattle.candidate_rounds.proofs.Snapshots.ResolvedValues.{evaluator-grown}

@@ -1,9 +1,9 @@
 use Rattle.std.proofs.Common.{◌≡◌, Bool, true, false, sym, ◌∙◌}
-use Rattle.candidate_ir.specs.declared.ir.kinds.GenericArg.{GenericArg}
+use Rattle.ir_trees.specs.declared.ir.kinds.GenericArg.{GenericArg}
 use Rattle.std.proofs.lemmas.Result.{err_from_is_err_and}
-use Rattle.candidate_ir.specs.Instantiation.Folds.{IsArg, arg_tree}
-use Rattle.candidate_ir.specs.Unification.Substitutions.{alone}
-use Rattle.candidate_ir.proofs.Hierarchy.Implying.{arg-kept}
+use Rattle.ir_trees.specs.Instantiation.Folds.{IsArg, arg_tree}
+use Rattle.ir_trees.specs.Unification.Substitutions.{alone}
+use Rattle.ir_folds.proofs.Hierarchy.Implying.{arg-kept}
 use Rattle.candidate_rounds.specs.Evaluators.Known.{Evaluator, GoesOn, IsEvaluator, judged_at, listing, state}
 use Rattle.rounds_judge.specs.Obligations.Settling.{has_unlisted}
 use Rattle.candidate_rounds.specs.Evaluators.Stopping.{IsEquationStop, IsRelationStop}

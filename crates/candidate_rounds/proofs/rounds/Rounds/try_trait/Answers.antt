@@ -1,6 +1,6 @@
 use Rattle.std.proofs.Common.{◌≡◌, None, Some, sym, ◌∙◌, subst}
 use Rattle.std.proofs.lemmas.Result.{err_from_is_err_and}
-use Rattle.candidate_ir.specs.Syntax.Words.{clause_tree, env_forest}
+use Rattle.ir_trees.specs.Syntax.Words.{clause_tree, env_forest}
 use Rattle.candidate_eval.specs.Outcomes.ResponseTrees.{response_of}
 use Rattle.candidate_rounds.specs.Table.Goals.{goal_seen, key_seen}
 use Rattle.candidate_rounds.specs.Evaluators.Known.{listing, reads, state}

@@ -1,5 +1,5 @@
 use Rattle.std.proofs.Common.{IfErr, IfOk, ap, reverse, subst, sym, ◌∙◌, ◌≡◌}
-use Rattle.candidate_ir.specs.Instantiation.Folds.{arg_tree}
+use Rattle.ir_trees.specs.Instantiation.Folds.{arg_tree}
 use Rattle.rounds_judge.specs.Equations.Equating.{value_for}
 use Rattle.candidate_rounds.specs.Evaluators.Known.{AreTypes, Each, Evaluator, GoesOn, listing, listing_of, state, state_of}
 use Rattle.candidate_rounds.proofs.Stops.Stopping.{value-stops}

@@ -1,6 +1,6 @@
 use Rattle.std.proofs.Common.{◌≡◌, ◌∷◌, suc, reverse, refl, ◌∙◌, ap, subst, arith, ◌≤◌, sym}
-use Rattle.candidate_ir.specs.Syntax.Nodes.{tree_at}
-use Rattle.candidate_ir.specs.Syntax.Trees.{tree, skip}
+use Rattle.ir_trees.specs.Syntax.Nodes.{tree_at}
+use Rattle.ir_trees.specs.Syntax.Trees.{tree, skip}
 use Rattle.rounds_judge.specs.Equations.Equating.{met, visited}
 use Rattle.candidate_rounds.specs.Calls.Frames.{pair_of, pairs_of, scope_of}
 use Rattle.candidate_rounds.specs.Evaluators.Known.{Evaluator, listing, state}
@@ -10,7 +10,7 @@ use Rattle.candidate_eval.proofs.Interface.StopKinds.{child-beyond}
 use Rattle.candidate_rounds.proofs.Stops.EquatingStops.{question, child-of, each-stop, look-stops}
 use Rattle.candidate_eval.specs.Interface.Noting.{HasWideNode}
 use Rattle.candidate_rounds.specs.Evaluators.Stopping.{IsLookStop, IsUnifyingStop, refused_growth, wide_node}
-use Rattle.candidate_ir.specs.declared.ir.stop.Stop.TheVariants.{NodesFull}
+use Rattle.ir_trees.specs.declared.ir.stop.Stop.TheVariants.{NodesFull}
 use Rattle.candidate_rounds.proofs.Evaluators.Exits.{not-refused}
 use Rattle.candidate_rounds.proofs.rounds.Rounds.visit.Goals as goal
 

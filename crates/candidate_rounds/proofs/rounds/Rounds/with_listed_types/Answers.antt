@@ -1,10 +1,10 @@
 use Rattle.std.proofs.Common.{◌≡◌, List, length, subst, sym}
 use Rattle.std.specs.Prelude.{IfErr, IfOk}
-use Rattle.candidate_ir.specs.Instantiation.Folding.{Answers, IsSubstStop, fold}
-use Rattle.candidate_ir.specs.Syntax.Words.{args_forest}
+use Rattle.ir_trees.specs.Instantiation.Folding.{Answers, IsSubstStop, fold}
+use Rattle.ir_trees.specs.Syntax.Words.{args_forest}
 use Rattle.std.proofs.Common.{refl}
-use Rattle.candidate_ir.specs.declared.ir.kinds.Ty.{Ty}
-use Rattle.candidate_ir.specs.Syntax.Trees.{Tree}
+use Rattle.ir_trees.specs.declared.ir.kinds.Ty.{Ty}
+use Rattle.ir_trees.specs.Syntax.Trees.{Tree}
 use Rattle.candidate_rounds.specs.Calls.PureFolder.{listed_answers}
 use Rattle.rounds_judge.specs.Aliases.Listed.{listed}
 use Rattle.candidate_rounds.specs.Evaluators.Known.{AreTypes, Each, Evaluator, listing, listing_of}

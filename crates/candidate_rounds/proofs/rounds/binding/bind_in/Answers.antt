@@ -1,5 +1,5 @@
 use Rattle.std.proofs.Common.{◌≡◌, [], sym, ◌∙◌, ap, subst}
-use Rattle.candidate_ir.specs.Instantiation.Folds.{arg_tree}
+use Rattle.ir_trees.specs.Instantiation.Folds.{arg_tree}
 use Rattle.candidate_rounds.specs.Evaluators.Inferences.{IsFurther, back_to}
 use Rattle.candidate_rounds.specs.Evaluators.Known.{IsConsistent}
 use Rattle.candidate_rounds.proofs.Evaluators.Going.{back-to-before, further-refl}

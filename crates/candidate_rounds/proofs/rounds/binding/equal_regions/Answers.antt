@@ -3,9 +3,9 @@ use Rattle.candidate_rounds.proofs.Equations.Recording.{clause-kept, outlives-ke
 use Rattle.std.proofs.lemmas.Result.{err_from_is_err_and}
 use Rattle.std.proofs.Common.{subst}
 use Rattle.candidate_rounds.specs.Evaluators.Stopping.{IsTreeStop, of_first, of_second}
-use Rattle.candidate_ir.specs.Syntax.Words.{region_tree}
+use Rattle.ir_trees.specs.Syntax.Words.{region_tree}
 use Rattle.rounds_judge.specs.Equations.Equating.{outlives}
-use Rattle.candidate_ir.proofs.Growth.Kept.{grows-trans}
+use Rattle.ir_trees.proofs.Growth.Kept.{grows-trans}
 use Rattle.candidate_rounds.proofs.rounds.binding.equal_regions.Goals as goal
 
 pub outlives-requires-2-clause-first : goal.outlives-requires-2-clause-first

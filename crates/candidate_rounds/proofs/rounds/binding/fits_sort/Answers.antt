@@ -1,9 +1,9 @@
 use Rattle.std.proofs.Common.{ap, sym, ◌∙◌}
-use Rattle.candidate_ir.specs.Instantiation.Folds.{arg_tree}
-use Rattle.candidate_ir.specs.Syntax.Kinds.{arg_kind}
-use Rattle.candidate_ir.specs.Unification.Substitutions.{fits_sort, is_constant_kind}
-use Rattle.candidate_ir.specs.Syntax.Trees.{is_type_kind}
-use Rattle.candidate_ir.proofs.Traversal.Asking.{arg-below}
+use Rattle.ir_trees.specs.Instantiation.Folds.{arg_tree}
+use Rattle.ir_trees.specs.Syntax.Kinds.{arg_kind}
+use Rattle.ir_trees.specs.Unification.Substitutions.{fits_sort, is_constant_kind}
+use Rattle.ir_trees.specs.Syntax.Trees.{is_type_kind}
+use Rattle.ir_trees.proofs.Traversal.Asking.{arg-below}
 use Rattle.candidate_rounds.proofs.Equations.Assigning.{fits-constant, fits-general, not-constant, not-type}
 use Rattle.candidate_rounds.proofs.rounds.binding.fits_sort.Goals as goal
 

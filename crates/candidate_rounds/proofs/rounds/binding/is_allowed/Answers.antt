@@ -1,5 +1,5 @@
 use Rattle.std.proofs.Common.{sym, ◌∙◌}
-use Rattle.candidate_ir.specs.Instantiation.Folds.{arg_tree}
+use Rattle.ir_trees.specs.Instantiation.Folds.{arg_tree}
 use Rattle.candidate_rounds.proofs.Equations.Assigning.{held-refused, open-refused, else-allowed}
 use Rattle.candidate_rounds.proofs.rounds.binding.is_allowed.Goals as goal
 

@@ -1,9 +1,9 @@
-use Rattle.candidate_ir.specs.Declarations.Context.{world}
+use Rattle.ir_trees.specs.Declarations.Context.{world}
 use Rattle.candidate_rounds.proofs.Evaluators.Going.{region-kept}
 use Rattle.candidate_rounds.proofs.Equations.Recording.{outlives-fits, outlives-takes, outlives-made, outlives-before}
 use Rattle.std.proofs.lemmas.Result.{err_from_is_err_and}
-use Rattle.candidate_ir.proofs.Instantiation.Joining.{clause-unmade}
-use Rattle.candidate_ir.proofs.Instantiation.Opening.{binder-stop}
+use Rattle.ir_folds.proofs.Instantiation.Joining.{clause-unmade}
+use Rattle.ir_folds.proofs.Instantiation.Opening.{binder-stop}
 use Rattle.candidate_rounds.proofs.rounds.binding.outlives.Goals as goal
 
 pub mk_clause-requires-clause-fits : goal.mk_clause-requires-clause-fits

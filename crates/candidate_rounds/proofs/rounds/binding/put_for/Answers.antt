@@ -1,4 +1,4 @@
-use Rattle.candidate_ir.proofs.Traversal.Asking.{arg-below}
+use Rattle.ir_trees.proofs.Traversal.Asking.{arg-below}
 use Rattle.candidate_rounds.proofs.rounds.binding.put_for.Goals as goal
 
 pub head-requires : goal.head-requires

@@ -1,5 +1,5 @@
 use Rattle.std.proofs.Common.{length, subst, sym, ◌∙◌}
-use Rattle.candidate_ir.specs.Instantiation.Folds.{IsArg, arg_tree}
+use Rattle.ir_trees.specs.Instantiation.Folds.{IsArg, arg_tree}
 use Rattle.rounds_judge.specs.Equations.Binding.{single}
 use Rattle.candidate_rounds.proofs.Resolution.Alone.{single-itself}
 use Rattle.candidate_rounds.proofs.Stops.Stopping.{arg-stop}

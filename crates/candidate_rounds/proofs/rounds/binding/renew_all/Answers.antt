@@ -1,8 +1,8 @@
-use Rattle.candidate_ir.proofs.Hierarchy.Implying.{arg-kept}
+use Rattle.ir_folds.proofs.Hierarchy.Implying.{arg-kept}
 use Rattle.candidate_rounds.proofs.Equations.Renewing.{lowered-after}
 use Rattle.std.proofs.lemmas.Result.{err_from_is_err_and, IfErr-weaker}
 use Rattle.std.proofs.Common.{subst}
-use Rattle.candidate_ir.specs.Instantiation.Folds.{arg_tree}
+use Rattle.ir_trees.specs.Instantiation.Folds.{arg_tree}
 use Rattle.candidate_rounds.specs.Evaluators.Known.{state_of}
 use Rattle.candidate_rounds.specs.Evaluators.Stopping.{IsBindingStop}
 use Rattle.candidate_rounds.proofs.Stops.BindingStops.{as-many, full-binding, number-below}

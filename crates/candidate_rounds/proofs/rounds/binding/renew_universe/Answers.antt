@@ -1,7 +1,7 @@
 use Rattle.std.proofs.Common.{◌≡◌, ◌≤◌, [], inl, inr, sym, subst, ◌∙◌, arith}
 use Rattle.candidate_rounds.specs.declared.rounds.inference.Entry.{Entry}
 use Rattle.candidate_rounds.specs.Evaluators.Inferences.{lower}
-use Rattle.candidate_ir.specs.Instantiation.Folds.{arg_tree}
+use Rattle.ir_trees.specs.Instantiation.Folds.{arg_tree}
 use Rattle.candidate_rounds.proofs.Equations.Assigning.{get-below, some-is, holds-lower, call-holds, universe-stays, universe-lowered, renewed-call}
 use Rattle.candidate_rounds.proofs.Evaluators.Going.{further-lower, further-call}
 use Rattle.candidate_rounds.proofs.Equations.Renewing.{universe-is}

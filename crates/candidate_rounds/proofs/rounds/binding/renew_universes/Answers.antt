@@ -1,5 +1,5 @@
 use Rattle.std.proofs.Common.{◌≡◌, ◌≤◌, [], length, sym, subst, arith}
-use Rattle.candidate_ir.specs.Instantiation.Folds.{arg_tree}
+use Rattle.ir_trees.specs.Instantiation.Folds.{arg_tree}
 use Rattle.candidate_rounds.proofs.Equations.Assigning.{universes-stay}
 use Rattle.candidate_rounds.proofs.Snapshots.Holding.{tidy-now}
 use Rattle.candidate_rounds.proofs.Equations.Renewing.{one-more-lowered, all-lowered}

@@ -1,7 +1,7 @@
 use Rattle.std.proofs.Common.{◌∙◌}
 use Rattle.candidate_rounds.proofs.Resolution.Leafing.{one-more-leaf}
 use Rattle.candidate_rounds.proofs.Stops.Rooms.{leaves-stop}
-use Rattle.candidate_ir.proofs.Growth.Kept.{grows-trans}
+use Rattle.ir_trees.proofs.Growth.Kept.{grows-trans}
 use Rattle.candidate_rounds.proofs.rounds.fresh.leaf_args.Goals as goal
 
 pub loop-i-preserved : goal.loop-i-preserved

@@ -1,11 +1,11 @@
 use Rattle.std.proofs.Common.{ap, refl, subst}
-use Rattle.candidate_ir.specs.declared.ir.heads.Head.TheVariants as H
-use Rattle.candidate_ir.specs.declared.ir.kinds.AliasKind.{AliasKind}
+use Rattle.ir_trees.specs.declared.ir.heads.Head.TheVariants as H
+use Rattle.ir_trees.specs.declared.ir.kinds.AliasKind.{AliasKind}
 use Rattle.std.specs.Prelude.{◌↔◌, IsTrue, Bool}
-use Rattle.candidate_ir.specs.declared.ir.kinds.TyKind.TheVariants as K
-use Rattle.candidate_ir.specs.Instantiation.Owned.{is_unsolved}
-use Rattle.candidate_ir.specs.Syntax.Trees.{holds, is_param}
-use Rattle.candidate_ir.specs.Syntax.Words.{args_forest, kind_tree}
+use Rattle.ir_trees.specs.declared.ir.kinds.TyKind.TheVariants as K
+use Rattle.ir_trees.specs.Instantiation.Owned.{is_unsolved}
+use Rattle.ir_trees.specs.Syntax.Trees.{holds, is_param}
+use Rattle.ir_trees.specs.Syntax.Words.{args_forest, kind_tree}
 use Rattle.candidate_rounds.specs.Evaluators.Known.{MayBeHidden, is_opaque}
 use Rattle.candidate_rounds.proofs.Evaluators.Given.{first, hidden-if, second, third}
 use Rattle.candidate_rounds.proofs.rounds.given.may_be_hidden.Goals as goal

@@ -1,5 +1,5 @@
 use Rattle.std.proofs.Common.{sym, ◌∙◌}
-use Rattle.candidate_ir.specs.Syntax.Words.{ty_tree}
+use Rattle.ir_trees.specs.Syntax.Words.{ty_tree}
 use Rattle.candidate_rounds.proofs.Evaluators.Given.{listed-so, type-head}
 use Rattle.candidate_rounds.proofs.rounds.given.may_be_listed.Goals as goal
 

@@ -1,8 +1,8 @@
 use Rattle.std.proofs.Common.{◌≡◌, ◌<◌, ◌-◌, ◌∙◌, Some, ap, arith, length, rules, subst, sym}
-use Rattle.candidate_ir.specs.Instantiation.Folding.{IsAnswerStop}
-use Rattle.candidate_ir.specs.Instantiation.Folds.{arg_tree}
-use Rattle.candidate_ir.specs.Syntax.Kinds.{arg_kind}
-use Rattle.candidate_ir.proofs.Syntax.Lists.{below_kind}
+use Rattle.ir_trees.specs.Instantiation.Folding.{IsAnswerStop}
+use Rattle.ir_trees.specs.Instantiation.Folds.{arg_tree}
+use Rattle.ir_trees.specs.Syntax.Kinds.{arg_kind}
+use Rattle.ir_trees.proofs.Syntax.Lists.{below_kind}
 use Rattle.candidate_rounds.specs.Calls.Giving.{lift_of, lifted_as, placeholder_in}
 use Rattle.candidate_rounds.proofs.Snapshots.Knowing.{there-arg}
 use Rattle.candidate_rounds.proofs.Stops.ResponseStops.{passed-on}

@@ -1,5 +1,5 @@
 use Rattle.std.proofs.Common.{◌∙◌, arith}
-use Rattle.candidate_ir.proofs.Growth.Kept.{grows-trans}
+use Rattle.ir_trees.proofs.Growth.Kept.{grows-trans}
 use Rattle.candidate_rounds.proofs.Obligations.Gathering.{if-ok-then}
 use Rattle.candidate_rounds.proofs.Table.Naming.{all-own, one-more-own, own-stop}
 use Rattle.candidate_rounds.proofs.rounds.giving.own_row.Goals as goal

@@ -1,6 +1,6 @@
 use Rattle.std.proofs.Common.{◌≡◌, rules, length}
-use Rattle.candidate_ir.specs.Instantiation.Folding.{IsAnswerStop}
-use Rattle.candidate_ir.specs.Instantiation.Folds.{arg_tree}
+use Rattle.ir_trees.specs.Instantiation.Folding.{IsAnswerStop}
+use Rattle.ir_trees.specs.Instantiation.Folds.{arg_tree}
 use Rattle.candidate_eval.specs.Judges.States.{variable}
 use Rattle.candidate_rounds.specs.Calls.Giving.{lift_of, translation_of}
 use Rattle.candidate_rounds.proofs.Obligations.Anew.{anew-kind}

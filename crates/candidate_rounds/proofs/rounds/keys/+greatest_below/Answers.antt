@@ -1,5 +1,5 @@
 use Rattle.std.proofs.Common.{◌≤◌, max, ◌∙◌, ap, arith, rules}
-use Rattle.candidate_ir.specs.Syntax.Nodes.{tree_at}
+use Rattle.ir_trees.specs.Syntax.Nodes.{tree_at}
 use Rattle.candidate_eval.proofs.Interface.StopKinds.{wide-node}
 use Rattle.rounds_judge.specs.Table.Keys.{greatest_named}
 use Rattle.candidate_rounds.specs.Calls.Walking.{AreUpTo}

@@ -1,4 +1,4 @@
-use Rattle.candidate_ir.specs.Syntax.Nodes.{tree_at}
+use Rattle.ir_trees.specs.Syntax.Nodes.{tree_at}
 use Rattle.candidate_rounds.specs.Calls.Walking.{AreUpTo}
 use Rattle.candidate_rounds.proofs.Table.Keying.{GreatestBelow}
 use Rattle.candidate_rounds.proofs.rounds.keys.+greatest_below.Given as goal

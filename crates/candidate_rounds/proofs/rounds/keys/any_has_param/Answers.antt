@@ -1,4 +1,4 @@
-use Rattle.candidate_ir.proofs.Growth.Made.{IsClause-listed}
+use Rattle.ir_trees.proofs.Growth.Made.{IsClause-listed}
 use Rattle.candidate_rounds.proofs.rounds.keys.any_has_param.Goals as goal
 
 pub has-requires : goal.has-requires

@@ -1,5 +1,5 @@
 use Rattle.std.proofs.Common.{not}
-use Rattle.candidate_ir.specs.Syntax.Words.{clause_tree}
+use Rattle.ir_trees.specs.Syntax.Words.{clause_tree}
 use Rattle.rounds_judge.specs.Table.GoalTable.{has_parameter}
 use Rattle.candidate_rounds.proofs.Table.Keying.{IsAllTo}
 use Rattle.candidate_rounds.proofs.rounds.keys.any_has_param.Given as goal

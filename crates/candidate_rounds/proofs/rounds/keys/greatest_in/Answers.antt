@@ -1,7 +1,7 @@
 use Rattle.std.proofs.Common.{◌∙◌, ap, arith, max, refl}
-use Rattle.candidate_ir.specs.Syntax.Words.{clause_tree}
-use Rattle.candidate_ir.proofs.Growth.Made.{IsClause-listed}
-use Rattle.candidate_ir.proofs.Syntax.Lists.{below_kind}
+use Rattle.ir_trees.specs.Syntax.Words.{clause_tree}
+use Rattle.ir_trees.proofs.Growth.Made.{IsClause-listed}
+use Rattle.ir_trees.proofs.Syntax.Lists.{below_kind}
 use Rattle.candidate_rounds.proofs.Table.Keying.{all-greatest-in, one-greater-in, up-to-greater}
 use Rattle.candidate_rounds.proofs.rounds.keys.greatest_in.Goals as goal
 

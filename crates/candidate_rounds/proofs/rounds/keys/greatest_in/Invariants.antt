@@ -1,4 +1,4 @@
-use Rattle.candidate_ir.specs.Syntax.Words.{clause_tree}
+use Rattle.ir_trees.specs.Syntax.Words.{clause_tree}
 use Rattle.candidate_rounds.specs.Calls.Walking.{AreUpTo}
 use Rattle.candidate_rounds.proofs.Table.Keying.{IsGreatestIn}
 use Rattle.candidate_rounds.proofs.rounds.keys.greatest_in.Given as goal

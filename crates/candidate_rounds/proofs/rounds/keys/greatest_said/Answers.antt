@@ -1,7 +1,7 @@
 use Rattle.std.proofs.Common.{◌≤◌, ap, arith, map, refl, sym, subst}
-use Rattle.candidate_ir.specs.Syntax.Nodes.{tree_at}
-use Rattle.candidate_ir.specs.Syntax.Words.{ClauseListFits, clause_tree}
-use Rattle.candidate_ir.proofs.Syntax.Lists.{below_kind}
+use Rattle.ir_trees.specs.Syntax.Nodes.{tree_at}
+use Rattle.ir_trees.specs.Syntax.Words.{ClauseListFits, clause_tree}
+use Rattle.ir_trees.proofs.Syntax.Lists.{below_kind}
 use Rattle.candidate_assembly.proofs.Calls.Causes.{so-ok}
 use Rattle.rounds_judge.specs.Table.Keys.{greatest_named}
 use Rattle.rounds_judge.specs.Table.TableSettling.{greatest_in}

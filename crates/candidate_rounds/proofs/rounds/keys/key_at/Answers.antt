@@ -1,6 +1,6 @@
 use Rattle.std.proofs.Common.{◌∙◌, ap, map, refl, slice_get, sym}
-use Rattle.candidate_ir.specs.Syntax.Words.{clause_tree, env_forest}
-use Rattle.candidate_ir.proofs.Growth.Kept.{grows-trans}
+use Rattle.ir_trees.specs.Syntax.Words.{clause_tree, env_forest}
+use Rattle.ir_trees.proofs.Growth.Kept.{grows-trans}
 use Rattle.candidate_rounds.specs.Calls.Gathered.{open_entry}
 use Rattle.candidate_rounds.specs.Table.Goals.{goal_seen}
 use Rattle.candidate_rounds.specs.Evaluators.Known.{state_of}

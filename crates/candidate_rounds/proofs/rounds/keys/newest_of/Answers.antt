@@ -1,7 +1,7 @@
 use Rattle.std.proofs.Common.{refl, ◌≡◌, ◌≤◌, ◌∙◌, max, ap, subst}
 use Rattle.std.specs.Prelude.{IfOk}
-use Rattle.candidate_ir.proofs.Syntax.Lists.{below_kind}
-use Rattle.candidate_ir.specs.Syntax.Nodes.{tree_at}
+use Rattle.ir_trees.proofs.Syntax.Lists.{below_kind}
+use Rattle.ir_trees.specs.Syntax.Nodes.{tree_at}
 use Rattle.rounds_judge.specs.Table.Keys.{greatest_named, greatest_of}
 use Rattle.candidate_rounds.proofs.Resolution.Walking.{each-of-none}
 use Rattle.candidate_rounds.proofs.Table.Keying.{newest-call}

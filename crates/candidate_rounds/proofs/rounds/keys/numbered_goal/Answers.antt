@@ -1,7 +1,7 @@
 use Rattle.std.proofs.Common.{◌∙◌, ap, refl, subst, sym}
-use Rattle.candidate_ir.specs.Syntax.Trees.{Tree}
-use Rattle.candidate_ir.specs.Syntax.Words.{clause_tree, env_forest}
-use Rattle.candidate_ir.proofs.Growth.Kept.{grows-trans}
+use Rattle.ir_trees.specs.Syntax.Trees.{Tree}
+use Rattle.ir_trees.specs.Syntax.Words.{clause_tree, env_forest}
+use Rattle.ir_trees.proofs.Growth.Kept.{grows-trans}
 use Rattle.rounds_judge.specs.Obligations.Responding.{renumbered, renumbered_tree}
 use Rattle.candidate_rounds.specs.Table.Goals.{SaysTrait, goal_seen}
 use Rattle.candidate_rounds.specs.Evaluators.Stopping.{IsNumberedStop, of_numbered_env}

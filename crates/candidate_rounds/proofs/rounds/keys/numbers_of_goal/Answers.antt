@@ -1,5 +1,5 @@
 use Rattle.std.proofs.Common.{refl}
-use Rattle.candidate_ir.proofs.Syntax.Lists.{below_kind}
+use Rattle.ir_trees.proofs.Syntax.Lists.{below_kind}
 use Rattle.candidate_rounds.specs.Calls.Walking.{IsGathered}
 use Rattle.candidate_rounds.proofs.Resolution.Walking.{each-of-none}
 use Rattle.candidate_rounds.proofs.Table.KeyGoals.{bare-seen, numbers-seen}

@@ -1,7 +1,7 @@
 use Rattle.std.proofs.Common.{◌≡◌, false}
-use Rattle.candidate_ir.specs.Syntax.Nodes.{tree_at}
-use Rattle.candidate_ir.specs.Syntax.Trees.{tree_holds}
-use Rattle.candidate_ir.proofs.Traversal.Noted.{each-of-none}
+use Rattle.ir_trees.specs.Syntax.Nodes.{tree_at}
+use Rattle.ir_trees.specs.Syntax.Trees.{tree_holds}
+use Rattle.ir_trees.proofs.Traversal.Noted.{each-of-none}
 use Rattle.candidate_rounds.proofs.rounds.keys.stands.Goals as goal
 
 pub has_marked-requires-clause-walked : goal.has_marked-requires-clause-walked

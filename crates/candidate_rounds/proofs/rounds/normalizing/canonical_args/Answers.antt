@@ -1,5 +1,5 @@
 use Rattle.std.proofs.Common.{◌≡◌, [], length, subst, ◌∙◌}
-use Rattle.candidate_ir.specs.Syntax.Words.{args_forest}
+use Rattle.ir_trees.specs.Syntax.Words.{args_forest}
 use Rattle.candidate_assembly.proofs.Calls.Causes.{so-err}
 use Rattle.rounds_judge.specs.Obligations.Responding.{renumbered, with_numbers}
 use Rattle.candidate_rounds.specs.Evaluators.Stopping.{IsRenumberingStop, of_own_list}

@@ -1,5 +1,5 @@
 use Rattle.std.proofs.Common.{◌≡◌, ℕ, false, sym, ◌∙◌}
-use Rattle.candidate_ir.specs.Syntax.Nodes.{tree_at}
+use Rattle.ir_trees.specs.Syntax.Nodes.{tree_at}
 use Rattle.rounds_judge.specs.Aliases.OpenParts.{has_loose_alias}
 use Rattle.candidate_rounds.proofs.Equations.OpenParts.{found-closed, next-loose, none-loose-in, not-loose-closed, not-loose-open, unmarked-below}
 use Rattle.candidate_rounds.proofs.Resolution.Walking.{noted-is}

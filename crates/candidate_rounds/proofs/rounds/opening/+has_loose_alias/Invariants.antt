@@ -1,4 +1,4 @@
-use Rattle.candidate_ir.specs.Syntax.Nodes.{tree_at}
+use Rattle.ir_trees.specs.Syntax.Nodes.{tree_at}
 use Rattle.candidate_rounds.specs.Calls.Opening.{AreTight}
 use Rattle.candidate_rounds.proofs.Equations.OpenParts.{LooseTo}
 use Rattle.candidate_rounds.proofs.rounds.opening.+has_loose_alias.Given as goal

@@ -1,6 +1,6 @@
 use Rattle.std.proofs.Common.{◌≡◌, ap, sym, subst, ◌∙◌}
-use Rattle.candidate_ir.specs.Instantiation.Folds.{arg_tree}
-use Rattle.candidate_ir.specs.Syntax.Nodes.{tree_at}
+use Rattle.ir_trees.specs.Instantiation.Folds.{arg_tree}
+use Rattle.ir_trees.specs.Syntax.Nodes.{tree_at}
 use Rattle.candidate_eval.specs.Interface.Noting.{IsNotingStop, refused_note}
 use Rattle.candidate_eval.proofs.Interface.StopKinds.{wide-node}
 use Rattle.rounds_judge.specs.Aliases.OpenParts.{with_part, with_parts}

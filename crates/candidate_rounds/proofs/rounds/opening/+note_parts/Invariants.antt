@@ -1,4 +1,4 @@
-use Rattle.candidate_ir.specs.Syntax.Nodes.{tree_at}
+use Rattle.ir_trees.specs.Syntax.Nodes.{tree_at}
 use Rattle.candidate_rounds.specs.Calls.Opening.{AreArgs, AreNoted, AreTight, trees_of}
 use Rattle.candidate_rounds.proofs.Equations.OpenParts.{PartsTo}
 use Rattle.candidate_rounds.proofs.rounds.opening.+note_parts.Given as goal

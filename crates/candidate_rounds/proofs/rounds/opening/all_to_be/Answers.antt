@@ -1,8 +1,8 @@
 use Rattle.std.proofs.Common.{subst}
 use Rattle.std.proofs.lemmas.Result.{err_from_is_err_and}
-use Rattle.candidate_ir.specs.declared.ir.kinds.GenericArg.TheVariants as A
-use Rattle.candidate_ir.specs.Syntax.Trees.{Tree}
-use Rattle.candidate_ir.proofs.Growth.Kept.{grows-trans}
+use Rattle.ir_trees.specs.declared.ir.kinds.GenericArg.TheVariants as A
+use Rattle.ir_trees.specs.Syntax.Trees.{Tree}
+use Rattle.ir_trees.proofs.Growth.Kept.{grows-trans}
 use Rattle.candidate_rounds.specs.Evaluators.Stopping.{IsTreeStop, of_pair, pairs_memory}
 use Rattle.candidate_rounds.proofs.Equations.OpenGoals.{all-goals, one-more-goal, pair-contained, pair-same, pair-there}
 use Rattle.candidate_rounds.proofs.Equations.OpenParts.{pair-at}

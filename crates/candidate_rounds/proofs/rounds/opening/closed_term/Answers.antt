@@ -1,8 +1,8 @@
 use Rattle.std.proofs.Common.{ap, sym, ◌∙◌}
-use Rattle.candidate_ir.specs.Syntax.Binders.{escapes}
-use Rattle.candidate_ir.specs.Syntax.Kinds.{arg_number}
-use Rattle.candidate_ir.specs.Syntax.Nodes.{tree_at}
-use Rattle.candidate_ir.specs.Unification.Substitutions.{alone}
+use Rattle.ir_trees.specs.Syntax.Binders.{escapes}
+use Rattle.ir_trees.specs.Syntax.Kinds.{arg_number}
+use Rattle.ir_trees.specs.Syntax.Nodes.{tree_at}
+use Rattle.ir_trees.specs.Unification.Substitutions.{alone}
 use Rattle.candidate_rounds.proofs.Equations.Assigning.{escapes-alone}
 use Rattle.candidate_rounds.proofs.Equations.OpenParts.{region-is, term-closed}
 use Rattle.candidate_rounds.proofs.rounds.opening.closed_term.Goals as goal

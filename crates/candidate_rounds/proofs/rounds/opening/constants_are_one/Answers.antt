@@ -1,7 +1,7 @@
-use Rattle.candidate_ir.specs.Declarations.Context.{world}
+use Rattle.ir_trees.specs.Declarations.Context.{world}
 use Rattle.std.proofs.lemmas.Result.{err_from_is_err_and}
-use Rattle.candidate_ir.proofs.Instantiation.Joining.{clause-unmade}
-use Rattle.candidate_ir.proofs.Instantiation.Opening.{binder-stop}
+use Rattle.ir_folds.proofs.Instantiation.Joining.{clause-unmade}
+use Rattle.ir_folds.proofs.Instantiation.Opening.{binder-stop}
 use Rattle.candidate_rounds.proofs.Evaluators.Going.{const-kept}
 use Rattle.candidate_rounds.proofs.Equations.OpenGoals.{constants-before, constants-fit, constants-made, constants-take}
 use Rattle.candidate_rounds.proofs.rounds.opening.constants_are_one.Goals as goal

@@ -1,5 +1,5 @@
 use Rattle.std.proofs.Common.{◌≡◌, ◌↔◌, IsTrue, rules, subst}
-use Rattle.candidate_ir.specs.Instantiation.Folds.{arg_tree}
+use Rattle.ir_trees.specs.Instantiation.Folds.{arg_tree}
 use Rattle.candidate_rounds.proofs.Equations.OpenParts.{among-here, not-among}
 use Rattle.candidate_rounds.proofs.rounds.opening.note_part.Goals as goal
 

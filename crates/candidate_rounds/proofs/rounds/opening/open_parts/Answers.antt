@@ -1,5 +1,5 @@
-use Rattle.candidate_ir.specs.Syntax.Trees.{ArgumentsKind}
-use Rattle.candidate_ir.proofs.Syntax.Lists.{below_kind}
+use Rattle.ir_trees.specs.Syntax.Trees.{ArgumentsKind}
+use Rattle.ir_trees.proofs.Syntax.Lists.{below_kind}
 use Rattle.std.proofs.Common.{refl}
 use Rattle.candidate_rounds.proofs.rounds.opening.open_parts.Goals as goal
 

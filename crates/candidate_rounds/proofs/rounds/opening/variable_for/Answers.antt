@@ -1,6 +1,6 @@
 use Rattle.std.proofs.Common.{slice_index_or, ◌∙◌}
-use Rattle.candidate_ir.specs.declared.ir.kinds.GenericArg.TheVariants as A
-use Rattle.candidate_ir.specs.Instantiation.Folds.{arg_tree}
+use Rattle.ir_trees.specs.declared.ir.kinds.GenericArg.TheVariants as A
+use Rattle.ir_trees.specs.Instantiation.Folds.{arg_tree}
 use Rattle.candidate_rounds.proofs.Equations.OpenParts.{other-part, pair-at, same-kind, this-part}
 use Rattle.candidate_rounds.proofs.rounds.opening.variable_for.Goals as goal
 

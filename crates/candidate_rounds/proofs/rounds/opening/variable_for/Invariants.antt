@@ -1,4 +1,4 @@
-use Rattle.candidate_ir.specs.Instantiation.Folds.{arg_tree}
+use Rattle.ir_trees.specs.Instantiation.Folds.{arg_tree}
 use Rattle.candidate_rounds.proofs.Equations.OpenParts.{IsFoundFrom}
 use Rattle.candidate_rounds.proofs.rounds.opening.variable_for.Given as goal
 

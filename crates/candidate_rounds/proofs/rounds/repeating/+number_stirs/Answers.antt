@@ -1,5 +1,5 @@
 use Rattle.std.proofs.Common.{◌≡◌, ℕ, false, sym, ◌∙◌}
-use Rattle.candidate_ir.specs.Syntax.Nodes.{tree_at}
+use Rattle.ir_trees.specs.Syntax.Nodes.{tree_at}
 use Rattle.candidate_rounds.specs.Calls.Repeating.{tree_stirs}
 use Rattle.candidate_rounds.proofs.Resolution.Stirring.{next-still, none-stirs}
 use Rattle.candidate_rounds.proofs.Resolution.Walking.{each-noted, noted-is}

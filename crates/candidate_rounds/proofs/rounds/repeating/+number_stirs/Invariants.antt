@@ -1,4 +1,4 @@
-use Rattle.candidate_ir.specs.Syntax.Nodes.{tree_at}
+use Rattle.ir_trees.specs.Syntax.Nodes.{tree_at}
 use Rattle.candidate_rounds.specs.Calls.Repeating.{AreStill}
 use Rattle.candidate_rounds.proofs.Resolution.Stirring.{IsStillTo}
 use Rattle.candidate_rounds.proofs.rounds.repeating.+number_stirs.Given as goal

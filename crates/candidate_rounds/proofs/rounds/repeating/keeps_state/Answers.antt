@@ -1,8 +1,8 @@
 use Rattle.std.proofs.Common.{◌≡◌, false, true, sym, ◌∙◌, ap, subst}
-use Rattle.candidate_ir.specs.Syntax.Nodes.{tree_at}
-use Rattle.candidate_ir.specs.Unification.Unify.{same_head}
-use Rattle.candidate_ir.proofs.Syntax.Equal.{head_is}
-use Rattle.candidate_ir.proofs.Traversal.Asking.{arg-below}
+use Rattle.ir_trees.specs.Syntax.Nodes.{tree_at}
+use Rattle.ir_trees.specs.Unification.Unify.{same_head}
+use Rattle.ir_trees.proofs.Syntax.Equal.{head_is}
+use Rattle.ir_trees.proofs.Traversal.Asking.{arg-below}
 use Rattle.candidate_rounds.specs.Calls.Repeating.{tree_stirs}
 use Rattle.candidate_rounds.proofs.rounds.repeating.keeps_state.Goals as goal
 

@@ -1,8 +1,8 @@
 use Rattle.std.proofs.Common.{◌≡◌, length, subst, sym, ◌∙◌}
 use Rattle.std.specs.Prelude.{IfErr, IfOk}
-use Rattle.candidate_ir.specs.Instantiation.Folding.{Answers, IsSubstStop, fold, fold_tree}
-use Rattle.candidate_ir.specs.Syntax.Nodes.{tree_at}
-use Rattle.candidate_ir.specs.Unification.Substitutions.{row_of}
+use Rattle.ir_trees.specs.Instantiation.Folding.{Answers, IsSubstStop, fold, fold_tree}
+use Rattle.ir_trees.specs.Syntax.Nodes.{tree_at}
+use Rattle.ir_trees.specs.Unification.Substitutions.{row_of}
 use Rattle.candidate_rounds.specs.Evaluators.Known.{members_of, state_of}
 use Rattle.candidate_rounds.proofs.Resolution.Quiet.{resolved-quiet}
 use Rattle.candidate_rounds.proofs.Resolution.Resolving.{kept-are}

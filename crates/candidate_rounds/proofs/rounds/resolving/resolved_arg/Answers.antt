@@ -1,9 +1,9 @@
 use Rattle.std.proofs.Common.{◌∙◌, ap, length, subst}
 use Rattle.std.specs.Prelude.{IfErr}
-use Rattle.candidate_ir.specs.Instantiation.Folding.{IsSubstStop}
-use Rattle.candidate_ir.specs.Instantiation.Folds.{arg_tree}
-use Rattle.candidate_ir.specs.Syntax.Trees.{Forest}
-use Rattle.candidate_ir.proofs.Syntax.Members.{arg-row}
+use Rattle.ir_trees.specs.Instantiation.Folding.{IsSubstStop}
+use Rattle.ir_trees.specs.Instantiation.Folds.{arg_tree}
+use Rattle.ir_trees.specs.Syntax.Trees.{Forest}
+use Rattle.ir_trees.proofs.Syntax.Members.{arg-row}
 use Rattle.candidate_eval.specs.Judges.States.{resolved}
 use Rattle.candidate_rounds.specs.Evaluators.Known.{state_of}
 use Rattle.candidate_rounds.proofs.Resolution.Alone.{lone-resolved, lone-sort}

@@ -1,5 +1,5 @@
 use Rattle.std.proofs.Common.{◌∙◌, ap}
-use Rattle.candidate_ir.specs.Instantiation.Folds.{arg_tree}
+use Rattle.ir_trees.specs.Instantiation.Folds.{arg_tree}
 use Rattle.candidate_rounds.specs.Evaluators.Known.{state_of}
 use Rattle.candidate_rounds.proofs.Resolution.Rooted.{or-root, region-stays, root-sort}
 use Rattle.candidate_rounds.proofs.rounds.resolving.resolved_root.Goals as goal

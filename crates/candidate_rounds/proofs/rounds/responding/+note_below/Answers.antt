@@ -1,7 +1,7 @@
 use Rattle.std.proofs.Common.{◌∙◌, ap, sym, rules}
 use Rattle.rounds_judge.specs.Table.TableSettling.{are_bare}
-use Rattle.candidate_ir.specs.Syntax.Nodes.{tree_at}
-use Rattle.candidate_ir.specs.Syntax.Trees.{variable_number}
+use Rattle.ir_trees.specs.Syntax.Nodes.{tree_at}
+use Rattle.ir_trees.specs.Syntax.Trees.{variable_number}
 use Rattle.candidate_eval.specs.Interface.Noting.{IsNotingStop, refused_note}
 use Rattle.rounds_judge.specs.Obligations.Responding.{with_number, with_numbers}
 use Rattle.candidate_eval.proofs.Interface.StopKinds.{wide-node}
@@ -10,7 +10,7 @@ use Rattle.candidate_rounds.proofs.Stops.ResponseStops.{one-more-noted-below, pa
 use Rattle.candidate_rounds.proofs.Obligations.Again.{gathered, gathered-later}
 use Rattle.candidate_rounds.proofs.Resolution.Unmarked.{bare-quiet, noted-quiet, unsolved-below}
 use Rattle.candidate_rounds.proofs.Resolution.Walking.{each-noted, noted-is}
-use Rattle.candidate_ir.proofs.Instantiation.Quiet.{variable-kept}
+use Rattle.ir_trees.proofs.Instantiation.Quiet.{variable-kept}
 use Rattle.candidate_rounds.proofs.rounds.responding.+note_below.Goals as goal
 
 pub returns-in_err-note_number-clause-cause : goal.returns-in_err-note_number-clause-cause

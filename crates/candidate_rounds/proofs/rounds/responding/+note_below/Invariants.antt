@@ -1,4 +1,4 @@
-use Rattle.candidate_ir.specs.Syntax.Nodes.{tree_at}
+use Rattle.ir_trees.specs.Syntax.Nodes.{tree_at}
 use Rattle.candidate_rounds.specs.Calls.Walking.{AreGathered}
 use Rattle.candidate_rounds.proofs.Stops.ResponseStops.{NotesBelow}
 use Rattle.candidate_rounds.proofs.rounds.responding.+note_below.Given as goal

@@ -1,6 +1,6 @@
 use Rattle.std.proofs.Common.{map, sym, ◌∙◌, ap, subst}
-use Rattle.candidate_ir.specs.Syntax.Words.{IsClause, clause_tree}
-use Rattle.candidate_ir.specs.declared.ir.stop.Stop.TheVariants.{Memory}
+use Rattle.ir_trees.specs.Syntax.Words.{IsClause, clause_tree}
+use Rattle.ir_trees.specs.declared.ir.stop.Stop.TheVariants.{Memory}
 use Rattle.candidate_eval.specs.declared.eval.mode.TypingMode.{TypingMode}
 use Rattle.candidate_eval.specs.Judges.States.{resolved_tree}
 use Rattle.candidate_rounds.specs.Evaluators.Known.{Each, state_of}
@@ -8,7 +8,7 @@ use Rattle.candidate_rounds.specs.Evaluators.Stopping.{IsResponseStop, response_
 use Rattle.candidate_rounds.proofs.Snapshots.Knowing.{is-clause-stays, kinds-grown, known-stays}
 use Rattle.candidate_rounds.proofs.Obligations.Gathering.{all-clauses, clause-later, each-index, one-more-clause}
 use Rattle.candidate_rounds.proofs.Stops.ResponseStops.{constraint-stop, passed-on}
-use Rattle.candidate_ir.proofs.Growth.Kept.{grows-trans}
+use Rattle.ir_trees.proofs.Growth.Kept.{grows-trans}
 use Rattle.candidate_rounds.proofs.rounds.responding.constraints.Goals as goal
 
 pub resolved-requires-clause-value : goal.resolved-requires-clause-value

@@ -1,4 +1,4 @@
-use Rattle.candidate_ir.proofs.Traversal.Asking.{arg-below}
+use Rattle.ir_trees.proofs.Traversal.Asking.{arg-below}
 use Rattle.candidate_eval.specs.Interface.Noting.{IsNotingStop, refused_note}
 use Rattle.candidate_rounds.proofs.Obligations.Again.{gathered-call, gathered-later}
 use Rattle.candidate_rounds.proofs.Stops.ResponseStops.{passed-growth, refused-growth}

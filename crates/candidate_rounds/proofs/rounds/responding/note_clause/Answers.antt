@@ -1,6 +1,6 @@
 use Rattle.std.proofs.Common.{refl}
-use Rattle.candidate_ir.specs.Syntax.Trees.{ClauseKind}
-use Rattle.candidate_ir.proofs.Syntax.Lists.{below_kind}
+use Rattle.ir_trees.specs.Syntax.Trees.{ClauseKind}
+use Rattle.ir_trees.proofs.Syntax.Lists.{below_kind}
 use Rattle.candidate_eval.specs.Interface.Noting.{IsNotingStop, refused_note}
 use Rattle.candidate_rounds.proofs.Obligations.Again.{gathered-later}
 use Rattle.candidate_rounds.proofs.Stops.ResponseStops.{passed-growth}

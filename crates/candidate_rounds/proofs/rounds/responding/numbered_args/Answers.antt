@@ -1,5 +1,5 @@
 use Rattle.std.proofs.Common.{refl, sym, ◌∙◌}
-use Rattle.candidate_ir.specs.Syntax.Words.{args_forest}
+use Rattle.ir_trees.specs.Syntax.Words.{args_forest}
 use Rattle.candidate_rounds.proofs.Obligations.Noting.{none-anew}
 use Rattle.candidate_rounds.proofs.rounds.responding.numbered_args.Goals as goal
 

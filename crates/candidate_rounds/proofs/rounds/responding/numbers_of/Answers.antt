@@ -1,4 +1,4 @@
-use Rattle.candidate_ir.proofs.Growth.Made.{IsClause-listed}
+use Rattle.ir_trees.proofs.Growth.Made.{IsClause-listed}
 use Rattle.candidate_rounds.specs.Calls.Walking.{IsGathered}
 use Rattle.candidate_rounds.proofs.Resolution.Walking.{each-of-none}
 use Rattle.candidate_rounds.proofs.rounds.responding.numbers_of.Goals as goal

@@ -1,5 +1,5 @@
 use Rattle.std.proofs.Common.{[]}
-use Rattle.candidate_ir.specs.Syntax.Words.{args_forest}
+use Rattle.ir_trees.specs.Syntax.Words.{args_forest}
 use Rattle.rounds_judge.specs.Obligations.Responding.{with_numbers}
 use Rattle.candidate_rounds.specs.Calls.Walking.{AreGathered}
 use Rattle.candidate_rounds.proofs.Obligations.Places.{IsNoted}

@@ -1,8 +1,8 @@
 use Rattle.std.proofs.Common.{length, subst, sym, ◌∙◌}
 use Rattle.std.specs.Prelude.{IfErr}
-use Rattle.candidate_ir.specs.Syntax.Nodes.{tree_at}
-use Rattle.candidate_ir.specs.Syntax.Trees.{Forest}
-use Rattle.candidate_ir.specs.Unification.Substitutions.{row_of}
+use Rattle.ir_trees.specs.Syntax.Nodes.{tree_at}
+use Rattle.ir_trees.specs.Syntax.Trees.{Forest}
+use Rattle.ir_trees.specs.Unification.Substitutions.{row_of}
 use Rattle.candidate_rounds.specs.Evaluators.Stopping.{IsRenumberingStop}
 use Rattle.candidate_rounds.proofs.Obligations.Anew.{fold-is, fold-tree-is}
 use Rattle.candidate_rounds.proofs.Obligations.Gathering.{if-ok-then}

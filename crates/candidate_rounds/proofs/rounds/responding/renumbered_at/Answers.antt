@@ -1,5 +1,5 @@
 use Rattle.std.proofs.Common.{◌≡◌, rules, length}
-use Rattle.candidate_ir.specs.Instantiation.Folds.{arg_tree}
+use Rattle.ir_trees.specs.Instantiation.Folds.{arg_tree}
 use Rattle.candidate_eval.specs.Judges.States.{variable}
 use Rattle.candidate_rounds.specs.Evaluators.Stopping.{IsNewNumberStop}
 use Rattle.candidate_rounds.specs.Calls.Gathered.{renumbered_at}

@@ -1,14 +1,14 @@
 use Rattle.std.proofs.Common.{◌∙◌, ap, length, map, subst}
-use Rattle.candidate_ir.specs.declared.ir.stop.Stop.TheVariants.{Memory}
-use Rattle.candidate_ir.specs.Syntax.Words.{clause_tree}
-use Rattle.candidate_ir.proofs.Growth.Made.{IsClause-listed}
+use Rattle.ir_trees.specs.declared.ir.stop.Stop.TheVariants.{Memory}
+use Rattle.ir_trees.specs.Syntax.Words.{clause_tree}
+use Rattle.ir_trees.proofs.Growth.Made.{IsClause-listed}
 use Rattle.candidate_rounds.specs.Evaluators.Stopping.{AreRenumberingStops, IsRenumberingStop, no_list}
 use Rattle.rounds_judge.specs.Obligations.Responding.{renumbered_tree}
 use Rattle.candidate_rounds.proofs.Obligations.Anew.{alone-is}
 use Rattle.candidate_rounds.proofs.Snapshots.Knowing.{clause-stays}
 use Rattle.candidate_rounds.proofs.Obligations.Gathering.{all-clauses, clauses-kept, one-more-clause}
 use Rattle.candidate_rounds.proofs.Stops.ResponseStops.{clause-unnumbered, passed-on}
-use Rattle.candidate_ir.proofs.Growth.Kept.{grows-trans}
+use Rattle.ir_trees.proofs.Growth.Kept.{grows-trans}
 use Rattle.candidate_rounds.proofs.rounds.responding.renumbered_clauses.Goals as goal
 
 pub renumbered-requires : goal.renumbered-requires

@@ -1,6 +1,6 @@
 use Rattle.std.proofs.Common.{[], map, rules, ◌≡◌, length, ◌∙◌}
-use Rattle.candidate_ir.specs.Syntax.Words.{args_forest, clause_tree}
-use Rattle.candidate_ir.proofs.Growth.Kept.{args-kept, grows-trans}
+use Rattle.ir_trees.specs.Syntax.Words.{args_forest, clause_tree}
+use Rattle.ir_trees.proofs.Growth.Kept.{args-kept, grows-trans}
 use Rattle.candidate_rounds.specs.Evaluators.Stopping.{AreRenumberingStops, IsRenumberingStop, IsResponseStop, of_noting, response_memory}
 use Rattle.candidate_rounds.specs.Evaluators.Known.{state_of}
 use Rattle.rounds_judge.specs.Obligations.Responding.{with_numbers, renumbered, with_numbers_of}

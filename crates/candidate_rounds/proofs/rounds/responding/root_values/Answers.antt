@@ -1,6 +1,6 @@
 use Rattle.std.proofs.Common.{slice_get, ◌∙◌, ap, arith}
 use Rattle.std.specs.Option.{option_map}
-use Rattle.candidate_ir.specs.Syntax.Words.{list_forest}
+use Rattle.ir_trees.specs.Syntax.Words.{list_forest}
 use Rattle.candidate_eval.specs.declared.eval.mode.TypingMode.{TypingMode}
 use Rattle.candidate_eval.specs.Judges.States.{resolved_tree}
 use Rattle.candidate_rounds.specs.Calls.Gathered.{root_at}
@@ -9,7 +9,7 @@ use Rattle.candidate_rounds.specs.Evaluators.Stopping.{IsResponseStop, full_tabl
 use Rattle.candidate_rounds.proofs.Obligations.Gathering.{all-roots, if-ok-then, more-roots, state-later}
 use Rattle.candidate_rounds.proofs.Snapshots.Knowing.{known-stays}
 use Rattle.candidate_rounds.proofs.Stops.ResponseStops.{many-variables, passed-on, passed-growth, roots-stop}
-use Rattle.candidate_ir.proofs.Growth.Kept.{grows-trans}
+use Rattle.ir_trees.proofs.Growth.Kept.{grows-trans}
 use Rattle.candidate_rounds.proofs.rounds.responding.root_values.Goals as goal
 
 pub root_value-requires : goal.root_value-requires

@@ -1,4 +1,4 @@
-use Rattle.candidate_ir.proofs.Growth.Kept.{args-kept}
+use Rattle.ir_trees.proofs.Growth.Kept.{args-kept}
 use Rattle.candidate_assembly.proofs.Goals.TraitClauses.{fact-fits, fact-takes, fit-kept}
 use Rattle.candidate_assembly.specs.Goals.TraitGoals.{trait_goal}
 use Rattle.candidate_rounds.specs.Evaluators.Stopping.{IsTreeStop, clause_saying}

@@ -1,4 +1,4 @@
-use Rattle.candidate_ir.proofs.Traversal.Asking.{arg-below}
+use Rattle.ir_trees.proofs.Traversal.Asking.{arg-below}
 use Rattle.candidate_rounds.proofs.rounds.values.is_alias.Goals as goal
 
 pub head-head-requires : goal.head-head-requires

@@ -1,5 +1,5 @@
 use Rattle.std.proofs.Common.{rules}
-use Rattle.candidate_ir.specs.Syntax.Words.{ty_tree}
+use Rattle.ir_trees.specs.Syntax.Words.{ty_tree}
 use Rattle.candidate_rounds.proofs.Resolution.Listing.{none-left, not-this, this-one}
 use Rattle.candidate_rounds.proofs.rounds.values.listed.Goals as goal
 

@@ -1,4 +1,4 @@
-use Rattle.candidate_ir.specs.Syntax.Words.{ty_tree}
+use Rattle.ir_trees.specs.Syntax.Words.{ty_tree}
 use Rattle.candidate_rounds.proofs.Resolution.Listing.{IsListedFrom}
 use Rattle.candidate_rounds.proofs.rounds.values.listed.Given as goal
 

@@ -1,8 +1,8 @@
 use Rattle.std.proofs.Common.{◌≡◌, length, subst, sym, ◌∙◌}
 use Rattle.std.specs.Prelude.{IfErr, IfOk}
-use Rattle.candidate_ir.specs.Instantiation.Folding.{Answers, IsSubstStop, fold_tree}
-use Rattle.candidate_ir.specs.Instantiation.Folds.{arg_tree}
-use Rattle.candidate_ir.specs.Unification.Substitutions.{alone}
+use Rattle.ir_trees.specs.Instantiation.Folding.{Answers, IsSubstStop, fold_tree}
+use Rattle.ir_trees.specs.Instantiation.Folds.{arg_tree}
+use Rattle.ir_trees.specs.Unification.Substitutions.{alone}
 use Rattle.candidate_rounds.specs.Calls.PureFolder.{listed_answers}
 use Rattle.candidate_rounds.proofs.Resolution.Listing.{empty-listing, listed-are}
 use Rattle.candidate_rounds.proofs.Stops.Stopping.{arg-stop}

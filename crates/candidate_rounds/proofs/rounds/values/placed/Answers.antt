@@ -1,5 +1,5 @@
 use Rattle.std.proofs.Common.{length, reverse, sym, ◌∙◌}
-use Rattle.candidate_ir.specs.Instantiation.Folds.{arg_tree}
+use Rattle.ir_trees.specs.Instantiation.Folds.{arg_tree}
 use Rattle.rounds_judge.specs.Equations.Scopes.{placed_head}
 use Rattle.candidate_rounds.proofs.Resolution.Placing.{empty-places}
 use Rattle.candidate_rounds.proofs.Resolution.Quiet.{placed-quiet}

@@ -1,11 +1,11 @@
 use Rattle.std.proofs.Common.{refl, sym, ◌∙◌, ap, reverse}
-use Rattle.candidate_ir.specs.Syntax.Trees.{kind_of}
-use Rattle.candidate_ir.proofs.Traversal.Asking.{arg-below, arg-head}
+use Rattle.ir_trees.specs.Syntax.Trees.{kind_of}
+use Rattle.ir_trees.proofs.Traversal.Asking.{arg-below, arg-head}
 use Rattle.std.proofs.lemmas.Result.{err_from_is_err_and}
 use Rattle.candidate_rounds.proofs.Stops.Stopping.{region-unmade}
 use Rattle.std.specs.Prelude.{option_map}
-use Rattle.candidate_ir.specs.Syntax.Nodes.{tree_at}
-use Rattle.candidate_ir.specs.Syntax.Words.{region_kind_tree}
+use Rattle.ir_trees.specs.Syntax.Nodes.{tree_at}
+use Rattle.ir_trees.specs.Syntax.Words.{region_kind_tree}
 use Rattle.rounds_judge.specs.Equations.Scopes.{placed_head}
 use Rattle.candidate_rounds.proofs.rounds.values.placed_arg.Goals as goal
 

@@ -1,5 +1,5 @@
 use Rattle.std.proofs.Common.{reverse, ◌∙◌, ap, subst}
-use Rattle.candidate_ir.specs.Instantiation.Folds.{arg_tree}
+use Rattle.ir_trees.specs.Instantiation.Folds.{arg_tree}
 use Rattle.candidate_rounds.specs.Evaluators.Known.{listing_of, state_of}
 use Rattle.rounds_judge.specs.Aliases.Listed.{normalized_tree}
 use Rattle.rounds_judge.specs.Equations.Scopes.{placed_tree}
@@ -8,7 +8,7 @@ use Rattle.candidate_rounds.proofs.Resolution.Listing.{listing-kept, types-kept}
 use Rattle.std.proofs.lemmas.Result.{err_from_is_err_and, IfErr-weaker}
 use Rattle.candidate_rounds.proofs.Stops.Stopping.{normal-is}
 use Rattle.candidate_rounds.specs.Evaluators.Stopping.{IsTreeStop, of_resolved, of_listed, of_placed}
-use Rattle.candidate_ir.proofs.Growth.Kept.{grows-trans}
+use Rattle.ir_trees.proofs.Growth.Kept.{grows-trans}
 use Rattle.candidate_rounds.proofs.rounds.values.value_in.Goals as goal
 
 pub normalized-requires-clause-types : goal.normalized-requires-clause-types

@@ -1,8 +1,8 @@
 use Rattle.std.proofs.Common.{◌≡◌, ◌∙◌, ℕ, subst}
-use Rattle.candidate_ir.specs.Syntax.Nodes.{tree_at}
-use Rattle.candidate_ir.specs.Syntax.Trees.{tree_holds}
-use Rattle.candidate_ir.proofs.Syntax.Children.{list-marked}
-use Rattle.candidate_ir.proofs.Syntax.Lists.{below_kind}
+use Rattle.ir_trees.specs.Syntax.Nodes.{tree_at}
+use Rattle.ir_trees.specs.Syntax.Trees.{tree_holds}
+use Rattle.ir_trees.proofs.Syntax.Children.{list-marked}
+use Rattle.ir_trees.proofs.Syntax.Lists.{below_kind}
 use Rattle.candidate_rounds.proofs.rounds.walking.has_marked.Goals as goal
 
 pub number_holds-requires-clause-number : goal.number_holds-requires-clause-number

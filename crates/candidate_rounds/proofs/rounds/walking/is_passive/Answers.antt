@@ -1,10 +1,10 @@
 use Rattle.std.proofs.Common.{◌≡◌, false}
 use Rattle.std.proofs.lemmas.Bool.{not-true}
-use Rattle.candidate_ir.specs.Syntax.Nodes.{tree_at}
-use Rattle.candidate_ir.specs.Syntax.Trees.{tree_holds}
+use Rattle.ir_trees.specs.Syntax.Nodes.{tree_at}
+use Rattle.ir_trees.specs.Syntax.Trees.{tree_holds}
 use Rattle.candidate_rounds.specs.Calls.Walking.{is_active_at}
 use Rattle.candidate_rounds.proofs.Equations.Passing.{passive-at}
-use Rattle.candidate_ir.proofs.Traversal.Noted.{each-of-none}
+use Rattle.ir_trees.proofs.Traversal.Noted.{each-of-none}
 use Rattle.candidate_rounds.proofs.rounds.walking.is_passive.Goals as goal
 
 pub number_holds-requires-clause-walked : goal.number_holds-requires-clause-walked

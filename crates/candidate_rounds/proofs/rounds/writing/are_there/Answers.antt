@@ -1,5 +1,5 @@
 use Rattle.std.proofs.Common.{◌≡◌, ◌<◌, ◌+◌, suc, length, List, subst, arith}
-use Rattle.candidate_ir.specs.Syntax.Trees.{Tree}
+use Rattle.ir_trees.specs.Syntax.Trees.{Tree}
 use Rattle.candidate_rounds.specs.declared.rounds.goals.GoalKey.{GoalKey}
 use Rattle.candidate_rounds.specs.Calls.Writing.{MakesOther}
 use Rattle.candidate_rounds.specs.Table.Entries.{write_verdict}

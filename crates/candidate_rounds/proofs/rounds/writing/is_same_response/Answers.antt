@@ -1,6 +1,6 @@
 use Rattle.std.proofs.Common.{◌≡◌, true, sym, ◌∙◌, subst}
 use Rattle.std.specs.Cmp.Lexicographic.{pointwise}
-use Rattle.candidate_ir.specs.contracts.ir.kinds.ClausePartialEq.TheImpl as clause
+use Rattle.ir_trees.specs.contracts.ir.kinds.ClausePartialEq.TheImpl as clause
 use Rattle.candidate_eval.specs.contracts.eval.variable.CanonicalVarPartialEq.TheImpl as variable
 use Rattle.candidate_rounds.proofs.Table.Equal.{args-are, certainty-is, clauses-are, clauses-same, passed-or-not}
 use Rattle.candidate_rounds.proofs.Table.Finding.{variables-themselves}

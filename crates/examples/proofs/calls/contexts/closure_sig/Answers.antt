@@ -1,4 +1,4 @@
-use Rattle.candidate_ir.proofs.Growth.Made.{IsTy-grows}
+use Rattle.ir_trees.proofs.Growth.Made.{IsTy-grows}
 use Rattle.examples.proofs.calls.contexts.closure_sig.Goals as goal
 
 pub mk_sig-requires : goal.mk_sig-requires

@@ -1,4 +1,4 @@
-use Rattle.candidate_ir.proofs.Growth.Made.{IsClause-grows}
+use Rattle.ir_trees.proofs.Growth.Made.{IsClause-grows}
 use Rattle.examples.proofs.calls.contexts.opened_with.Goals as goal
 
 pub open_clause-requires-clause-clause : goal.open_clause-requires-clause-clause

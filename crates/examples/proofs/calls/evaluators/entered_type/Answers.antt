@@ -1,4 +1,4 @@
-use Rattle.candidate_ir.proofs.Growth.Made.{IsTy-grows}
+use Rattle.ir_trees.proofs.Growth.Made.{IsTy-grows}
 use Rattle.examples.proofs.calls.evaluators.entered_type.Goals as goal
 
 pub enter_binder-requires-clause-under : goal.enter_binder-requires-clause-under

@@ -1,4 +1,4 @@
-use Rattle.candidate_ir.proofs.Growth.Made.{IsArgs-grows}
+use Rattle.ir_trees.proofs.Growth.Made.{IsArgs-grows}
 use Rattle.examples.proofs.calls.evaluators.instantiated_args.Goals as goal
 
 pub instantiate_binder_with_infer-requires-clause-under : goal.instantiate_binder_with_infer-requires-clause-under

@@ -1,4 +1,4 @@
-use Rattle.candidate_ir.proofs.Growth.Made.{IsTy-grows}
+use Rattle.ir_trees.proofs.Growth.Made.{IsTy-grows}
 use Rattle.examples.proofs.calls.evaluators.normal_type.Goals as goal
 
 pub structurally_normalize_ty-requires-clause-ty : goal.structurally_normalize_ty-requires-clause-ty

@@ -1,8 +1,8 @@
 use Rattle.std.proofs.Common.{refl, rules, subst, sym}
-use Rattle.candidate_ir.specs.declared.ir.kinds.TyKind.TheVariants as TK
-use Rattle.candidate_ir.specs.Declarations.Context.{world}
-use Rattle.candidate_ir.specs.Syntax.Words.{kind_tree}
-use Rattle.candidate_ir.specs.Declarations.References.{Takes}
+use Rattle.ir_trees.specs.declared.ir.kinds.TyKind.TheVariants as TK
+use Rattle.ir_trees.specs.Declarations.Context.{world}
+use Rattle.ir_trees.specs.Syntax.Words.{kind_tree}
+use Rattle.ir_trees.specs.Declarations.References.{Takes}
 use Rattle.candidate_assembly.proofs.Aliases.AliasChains.{alias-tree}
 use Rattle.projection_goals.proofs.kind.NormalizesTo.fits.Goals as goal
 

@@ -1,9 +1,9 @@
 use Rattle.std.proofs.Common.{◌≡◌, ◌∙◌, ◌||◌, ◌+◌, ℕ, false, true, not, refl, sym, ap}
 use Rattle.std.proofs.lemmas.Bool.{not-true}
-use Rattle.candidate_ir.specs.Syntax.Binders.{escapes, is_beyond, tree_escapes}
-use Rattle.candidate_ir.specs.Syntax.Trees.{Tree, binders_of, is_param, tree_holds}
-use Rattle.candidate_ir.specs.Syntax.Words.{args_forest, ty_tree}
-use Rattle.candidate_ir.specs.Unification.Substitutions.{alone}
+use Rattle.ir_trees.specs.Syntax.Binders.{escapes, is_beyond, tree_escapes}
+use Rattle.ir_trees.specs.Syntax.Trees.{Tree, binders_of, is_param, tree_holds}
+use Rattle.ir_trees.specs.Syntax.Words.{args_forest, ty_tree}
+use Rattle.ir_trees.specs.Unification.Substitutions.{alone}
 use Rattle.projection_goals.specs.Rows.{escaping-join, escaping-parts}
 use Rattle.projection_goals.proofs.Changing.{held-either, or-nothing}
 use Rattle.projection_goals.proofs.kind.NormalizesTo.is_closed.Goals as goal

@@ -1,9 +1,9 @@
 use Rattle.std.proofs.Common.{◌≡◌, ◌++◌, ◌∷◌, [], rules, subst, ◌∙◌, ap}
-use Rattle.candidate_ir.specs.declared.ir.kinds.GenericArg.TheVariants as G
-use Rattle.candidate_ir.specs.Declarations.Context.{Context}
-use Rattle.candidate_ir.specs.Syntax.Trees.{heights, join}
-use Rattle.candidate_ir.specs.Syntax.Words.{IsMkStop, ListFits, args_forest, list_forest, ty_tree}
-use Rattle.candidate_ir.specs.Unification.Substitutions.{alone}
+use Rattle.ir_trees.specs.declared.ir.kinds.GenericArg.TheVariants as G
+use Rattle.ir_trees.specs.Declarations.Context.{Context}
+use Rattle.ir_trees.specs.Syntax.Trees.{heights, join}
+use Rattle.ir_trees.specs.Syntax.Words.{IsMkStop, ListFits, args_forest, list_forest, ty_tree}
+use Rattle.ir_trees.specs.Unification.Substitutions.{alone}
 use Rattle.candidate_assembly.proofs.Calls.Causes.{so-err, so-ok}
 use Rattle.candidate_assembly.proofs.Upcasting.UpcastRows.{pushed-trees}
 use Rattle.projection_goals.proofs.kind.NormalizesTo.mentioned.Goals as goal

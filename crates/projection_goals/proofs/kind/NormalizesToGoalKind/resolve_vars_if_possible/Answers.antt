@@ -1,7 +1,7 @@
 use Rattle.std.proofs.Common.{◌≡◌, ◌∙◌, ap, refl, sym}
 use Rattle.std.proofs.lemmas.Result.{err_from_is_err_and}
-use Rattle.candidate_ir.specs.Syntax.Words.{args_forest, env_forest, ty_tree}
-use Rattle.candidate_ir.proofs.Growth.Kept.{args-kept, ty-kept}
+use Rattle.ir_trees.specs.Syntax.Words.{args_forest, env_forest, ty_tree}
+use Rattle.ir_trees.proofs.Growth.Kept.{args-kept, ty-kept}
 use Rattle.candidate_eval.specs.Interface.Accounts.Question.{resolve}
 use Rattle.candidate_eval.specs.Interface.Accounts.StopsSomehow.{asking}
 use Rattle.candidate_eval.specs.Judges.States.{resolved, resolved_tree}

@@ -1,5 +1,5 @@
-use Rattle.candidate_ir.specs.declared.ir.kinds.TyKind.TheVariants as TK
-use Rattle.candidate_ir.specs.declared.ir.kinds.UintTy.TheVariants as U
+use Rattle.ir_trees.specs.declared.ir.kinds.TyKind.TheVariants as TK
+use Rattle.ir_trees.specs.declared.ir.kinds.UintTy.TheVariants as U
 use Rattle.candidate_eval.proofs.Interface.Unmade.{type-unmade}
 use Rattle.candidate_assembly.proofs.Calls.Causes.{so-err}
 use Rattle.projection_goals.proofs.named.NamedType.ty.Goals as goal

@@ -1,8 +1,8 @@
 use Rattle.std.proofs.Common.{get_or, refl, rules}
-use Rattle.candidate_ir.specs.declared.ir.kinds.GenericArg.{GenericArg}
-use Rattle.candidate_ir.specs.declared.ir.kinds.GenericArg.TheVariants as A
-use Rattle.candidate_ir.specs.Instantiation.Folds.{IsArg}
-use Rattle.candidate_ir.proofs.Growth.Made.{IsPred-listed}
+use Rattle.ir_trees.specs.declared.ir.kinds.GenericArg.{GenericArg}
+use Rattle.ir_trees.specs.declared.ir.kinds.GenericArg.TheVariants as A
+use Rattle.ir_trees.specs.Instantiation.Folds.{IsArg}
+use Rattle.ir_trees.proofs.Growth.Made.{IsPred-listed}
 use Rattle.spelling.proofs.Listed.{IsArg-listed}
 use Rattle.spelling.proofs.types.Spelling.+spelling.Goals as goal
 

@@ -1,5 +1,5 @@
 use Rattle.std.proofs.Common.{◌+◌, ◌*◌}
-use Rattle.candidate_ir.specs.Syntax.Words.{PredListFits}
+use Rattle.ir_trees.specs.Syntax.Words.{PredListFits}
 use Rattle.spelling.proofs.types.Spelling.+spelling.Given as goal
 
 abbrev pub decreases-spell : goal.decreases-spell

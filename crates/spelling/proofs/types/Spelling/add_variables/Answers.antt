@@ -1,5 +1,5 @@
 use Rattle.std.proofs.Common.{rules}
-use Rattle.candidate_ir.proofs.Growth.Made.{IsVar-listed}
+use Rattle.ir_trees.proofs.Growth.Made.{IsVar-listed}
 use Rattle.spelling.proofs.types.Spelling.add_variables.Goals as goal
 
 pub var-requires : goal.var-requires

@@ -1,5 +1,5 @@
 use Rattle.std.proofs.Common.{rules}
-use Rattle.candidate_ir.proofs.Growth.Made.{IsClause-listed}
+use Rattle.ir_trees.proofs.Growth.Made.{IsClause-listed}
 use Rattle.spelling.proofs.types.Spelling.add_wheres.Goals as goal
 
 pub add_clause-requires : goal.add_clause-requires

@@ -1,5 +1,5 @@
-use Rattle.candidate_ir.specs.Syntax.Words.{ty_tree}
-use Rattle.candidate_ir.proofs.Traversal.FoldStops.{subst-cause}
+use Rattle.ir_trees.specs.Syntax.Words.{ty_tree}
+use Rattle.ir_folds.proofs.Traversal.FoldStops.{subst-cause}
 use Rattle.candidate_assembly.proofs.Opaques.TypesFor.{types-extend, unasked-answer}
 use Rattle.candidate_assembly.proofs.assembly.opaques.TypeForPureFolder.recall_laws.Goals as goal
 

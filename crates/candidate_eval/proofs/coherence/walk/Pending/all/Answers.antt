@@ -1,6 +1,6 @@
 use Rattle.std.proofs.Common.{◌<◌, ℕ, sym, ◌∙◌, ap, subst}
-use Rattle.candidate_ir.specs.Syntax.Trees.{count}
-use Rattle.candidate_ir.proofs.Syntax.Members.{count-members}
+use Rattle.ir_trees.specs.Syntax.Trees.{count}
+use Rattle.ir_trees.proofs.Syntax.Members.{count-members}
 use Rattle.candidate_eval.specs.declared.coherence.walk.Pending.{Pending}
 use Rattle.candidate_eval.proofs.coherence.walk.Pending.all.Goals as goal
 

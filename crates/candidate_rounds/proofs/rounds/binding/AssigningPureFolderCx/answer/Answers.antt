@@ -1,5 +1,5 @@
 use Rattle.std.proofs.Common.{ap, subst, sym, ◌∙◌}
-use Rattle.candidate_ir.specs.Instantiation.Folds.{IsOfKind, arg_tree}
+use Rattle.ir_trees.specs.Instantiation.Folds.{IsOfKind, arg_tree}
 use Rattle.std.specs.Option.{option_map}
 use Rattle.candidate_rounds.proofs.Equations.Assigning.{single-of-kind, single-tree}
 use Rattle.candidate_rounds.proofs.rounds.binding.AssigningPureFolderCx.answer.Goals as goal

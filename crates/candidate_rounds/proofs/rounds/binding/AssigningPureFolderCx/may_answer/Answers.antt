@@ -1,5 +1,5 @@
-use Rattle.candidate_ir.specs.Instantiation.Folds.{arg_tree}
-use Rattle.candidate_ir.proofs.Instantiation.Quiet.{variable-kept}
+use Rattle.ir_trees.specs.Instantiation.Folds.{arg_tree}
+use Rattle.ir_trees.proofs.Instantiation.Quiet.{variable-kept}
 use Rattle.candidate_rounds.proofs.Resolution.Quiet.{single-quiet}
 use Rattle.candidate_rounds.proofs.rounds.binding.AssigningPureFolderCx.may_answer.Goals as goal
 

@@ -1,5 +1,5 @@
 use Rattle.std.proofs.Common.{sym, ◌∙◌}
-use Rattle.candidate_ir.specs.declared.ir.heads.Flag.TheVariants as F
+use Rattle.ir_trees.specs.declared.ir.heads.Flag.TheVariants as F
 use Rattle.candidate_rounds.proofs.Table.Cleanness.{without-mark}
 use Rattle.candidate_rounds.proofs.rounds.cleanness.ErrorRegionMark.may_stand.Goals as goal
 

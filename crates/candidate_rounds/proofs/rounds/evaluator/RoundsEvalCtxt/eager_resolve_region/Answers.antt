@@ -1,5 +1,5 @@
 use Rattle.std.proofs.Common.{◌∙◌, ap}
-use Rattle.candidate_ir.specs.Syntax.Nodes.{kind_at}
+use Rattle.ir_trees.specs.Syntax.Nodes.{kind_at}
 use Rattle.candidate_rounds.proofs.Resolution.Values.{region-value}
 use Rattle.candidate_rounds.proofs.rounds.evaluator.RoundsEvalCtxt.eager_resolve_region.Goals as goal
 

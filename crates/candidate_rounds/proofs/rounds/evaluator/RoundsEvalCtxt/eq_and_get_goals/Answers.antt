@@ -1,6 +1,6 @@
-use Rattle.candidate_ir.specs.Instantiation.Folds.{arg_tree}
-use Rattle.candidate_ir.specs.Syntax.Words.{env_forest}
-use Rattle.candidate_ir.specs.Unification.Substitutions.{alone}
+use Rattle.ir_trees.specs.Instantiation.Folds.{arg_tree}
+use Rattle.ir_trees.specs.Syntax.Words.{env_forest}
+use Rattle.ir_trees.specs.Unification.Substitutions.{alone}
 use Rattle.candidate_eval.specs.Interface.Evaluators.{pendings_of}
 use Rattle.candidate_rounds.specs.Evaluators.Known.{listing, state}
 use Rattle.candidate_rounds.specs.Evaluators.Stopping.{IsOpeningStop}

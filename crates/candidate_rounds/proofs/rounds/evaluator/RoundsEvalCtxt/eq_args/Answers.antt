@@ -1,4 +1,4 @@
-use Rattle.candidate_ir.specs.Syntax.Words.{args_forest, env_forest}
+use Rattle.ir_trees.specs.Syntax.Words.{args_forest, env_forest}
 use Rattle.candidate_rounds.specs.Evaluators.Known.{listing, state}
 use Rattle.candidate_rounds.specs.Evaluators.Stopping.{IsOpeningStop}
 use Rattle.candidate_rounds.proofs.Evaluators.Between.{parts}

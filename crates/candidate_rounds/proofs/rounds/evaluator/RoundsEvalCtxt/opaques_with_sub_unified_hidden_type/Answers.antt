@@ -1,10 +1,10 @@
 use Rattle.std.proofs.Common.{◌≡◌, Bool, [], refl, sym, ◌∙◌, ap, subst, if◌then◌else◌}
 use Rattle.std.specs.Prelude.{All, length}
 use Rattle.std.proofs.lemmas.List.Elements.{All-nil}
-use Rattle.candidate_ir.specs.Declarations.References.{IsWellFormed}
-use Rattle.candidate_ir.specs.Syntax.Trees.{TypeKind, is_type_kind}
-use Rattle.candidate_ir.specs.Syntax.Words.{ty_tree, kind_tree}
-use Rattle.candidate_ir.proofs.Syntax.Rows.{kind-of}
+use Rattle.ir_trees.specs.Declarations.References.{IsWellFormed}
+use Rattle.ir_trees.specs.Syntax.Trees.{TypeKind, is_type_kind}
+use Rattle.ir_trees.specs.Syntax.Words.{ty_tree, kind_tree}
+use Rattle.ir_trees.proofs.Syntax.Rows.{kind-of}
 use Rattle.candidate_eval.specs.Interface.Evaluators.{IsHiddenOpaque, alias_trees}
 use Rattle.candidate_rounds.specs.Evaluators.Known.{Evaluator, state}
 use Rattle.candidate_rounds.proofs.Evaluators.HiddenOpaques.{all-hidden}

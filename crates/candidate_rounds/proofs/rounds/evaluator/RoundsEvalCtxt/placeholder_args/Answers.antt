@@ -1,6 +1,6 @@
 use Rattle.std.proofs.Common.{ap, arith, subst, sym, ◌∙◌}
-use Rattle.candidate_ir.specs.Declarations.Context.{Context}
-use Rattle.candidate_ir.specs.Syntax.Words.{IsArgs, args_forest}
+use Rattle.ir_trees.specs.Declarations.Context.{Context}
+use Rattle.ir_trees.specs.Syntax.Words.{IsArgs, args_forest}
 use Rattle.candidate_eval.specs.Judges.States.{placeholders}
 use Rattle.candidate_eval.specs.Interface.Evaluators.{kinds_listed}
 use Rattle.candidate_rounds.specs.Evaluators.Known.{Evaluator}

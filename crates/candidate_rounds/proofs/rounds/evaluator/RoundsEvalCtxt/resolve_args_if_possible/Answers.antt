@@ -1,7 +1,7 @@
 use Rattle.std.proofs.Common.{◌≡◌, refl, length, reverse, IfOk, subst}
 use Rattle.std.specs.Prelude.{IfErr}
-use Rattle.candidate_ir.specs.Instantiation.Folding.{IsSubstStop}
-use Rattle.candidate_ir.specs.Syntax.Words.{args_forest}
+use Rattle.ir_trees.specs.Instantiation.Folding.{IsSubstStop}
+use Rattle.ir_trees.specs.Syntax.Words.{args_forest}
 use Rattle.candidate_eval.specs.Judges.States.{resolved}
 use Rattle.candidate_rounds.specs.Evaluators.Known.{Evaluator, state}
 use Rattle.candidate_rounds.proofs.Evaluators.Between.{parts}

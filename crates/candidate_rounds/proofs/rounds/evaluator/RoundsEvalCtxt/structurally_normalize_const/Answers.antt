@@ -1,8 +1,8 @@
 use Rattle.candidate_rounds.proofs.Resolution.Normals.{constant-normalized}
 use Rattle.candidate_rounds.proofs.Evaluators.Between.{parts}
 use Rattle.std.proofs.Common.{◌∙◌, ap}
-use Rattle.candidate_ir.specs.Syntax.Trees.{none}
-use Rattle.candidate_ir.specs.Syntax.Words.{const_tree}
+use Rattle.ir_trees.specs.Syntax.Trees.{none}
+use Rattle.ir_trees.specs.Syntax.Words.{const_tree}
 use Rattle.rounds_judge.specs.Aliases.Normalizing.{normalized}
 use Rattle.rounds_judge.proofs.Aliases.WellListed.{all-listed}
 use Rattle.candidate_rounds.specs.Evaluators.Known.{listing, state}

@@ -1,7 +1,7 @@
 use Rattle.std.proofs.Common.{ap, sym, ◌∙◌}
 use Rattle.std.proofs.lemmas.Result.{err_from_is_err_and}
-use Rattle.candidate_ir.specs.Syntax.Trees.{none}
-use Rattle.candidate_ir.specs.Syntax.Words.{ty_tree}
+use Rattle.ir_trees.specs.Syntax.Trees.{none}
+use Rattle.ir_trees.specs.Syntax.Words.{ty_tree}
 use Rattle.rounds_judge.specs.Aliases.Normalizing.{normalized}
 use Rattle.rounds_judge.proofs.Aliases.WellListed.{all-listed}
 use Rattle.candidate_rounds.specs.Evaluators.Known.{listing, state}

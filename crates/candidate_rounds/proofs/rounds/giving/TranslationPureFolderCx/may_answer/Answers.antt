@@ -1,4 +1,4 @@
-use Rattle.candidate_ir.proofs.Instantiation.Quiet.{made-kept}
+use Rattle.ir_trees.proofs.Instantiation.Quiet.{made-kept}
 use Rattle.candidate_rounds.specs.Calls.Giving.{lift_of}
 use Rattle.candidate_rounds.proofs.Table.Naming.{translation-quiet}
 use Rattle.candidate_rounds.proofs.rounds.giving.TranslationPureFolderCx.may_answer.Goals as goal

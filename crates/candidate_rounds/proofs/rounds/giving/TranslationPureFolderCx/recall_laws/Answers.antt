@@ -1,5 +1,5 @@
 use Rattle.std.proofs.Common.{refl}
-use Rattle.candidate_ir.proofs.Traversal.FoldStops.{subst-cause}
+use Rattle.ir_folds.proofs.Traversal.FoldStops.{subst-cause}
 use Rattle.candidate_rounds.specs.Calls.Giving.{lift_of}
 use Rattle.candidate_rounds.proofs.Table.Naming.{unsaid}
 use Rattle.candidate_rounds.proofs.rounds.giving.TranslationPureFolderCx.recall_laws.Goals as goal

@@ -1,5 +1,5 @@
 use Rattle.std.proofs.Common.{Bool, None, ap, sym, ◌∙◌, if◌then◌else◌}
-use Rattle.candidate_ir.specs.Instantiation.Folds.{arg_tree}
+use Rattle.ir_trees.specs.Instantiation.Folds.{arg_tree}
 use Rattle.rounds_judge.specs.Aliases.Listed.{listed_in}
 use Rattle.candidate_rounds.specs.Calls.Opening.{pairs_at}
 use Rattle.candidate_rounds.proofs.Equations.OpenVariables.{arg-asked}

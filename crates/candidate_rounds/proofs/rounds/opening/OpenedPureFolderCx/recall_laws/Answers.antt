@@ -1,7 +1,7 @@
 use Rattle.std.proofs.Common.{Bool, None, ap, if◌then◌else◌}
-use Rattle.candidate_ir.proofs.Traversal.FoldStops.{subst-cause}
+use Rattle.ir_folds.proofs.Traversal.FoldStops.{subst-cause}
 use Rattle.rounds_judge.specs.Aliases.Listed.{listed_in}
-use Rattle.candidate_ir.specs.Instantiation.Folds.{is_asked}
+use Rattle.ir_trees.specs.Instantiation.Folds.{is_asked}
 use Rattle.candidate_rounds.specs.Calls.Opening.{pairs_at}
 use Rattle.candidate_rounds.proofs.Equations.OpenVariables.{paired-extend, pairs-extend}
 use Rattle.candidate_rounds.proofs.rounds.opening.OpenedPureFolderCx.recall_laws.Goals as goal

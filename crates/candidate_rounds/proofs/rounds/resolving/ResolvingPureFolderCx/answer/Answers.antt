@@ -1,6 +1,6 @@
 use Rattle.std.proofs.Common.{ap, subst, sym}
 use Rattle.std.specs.Option.{option_map}
-use Rattle.candidate_ir.specs.Instantiation.Folds.{IsOfKind, arg_tree}
+use Rattle.ir_trees.specs.Instantiation.Folds.{IsOfKind, arg_tree}
 use Rattle.candidate_rounds.proofs.Resolution.Resolving.{kept-of-kind}
 use Rattle.candidate_rounds.proofs.rounds.resolving.ResolvingPureFolderCx.answer.Goals as goal
 

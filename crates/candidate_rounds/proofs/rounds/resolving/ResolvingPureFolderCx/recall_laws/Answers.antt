@@ -1,4 +1,4 @@
-use Rattle.candidate_ir.proofs.Traversal.FoldStops.{subst-cause}
+use Rattle.ir_folds.proofs.Traversal.FoldStops.{subst-cause}
 use Rattle.candidate_rounds.proofs.Resolution.Quiet.{kept-unasked}
 use Rattle.candidate_rounds.proofs.Resolution.Resolving.{kept-stay}
 use Rattle.candidate_rounds.proofs.Snapshots.Knowing.{kinds-grown, known-stays}

@@ -1,4 +1,4 @@
-use Rattle.candidate_ir.proofs.Instantiation.Quiet.{variable-kept}
+use Rattle.ir_trees.proofs.Instantiation.Quiet.{variable-kept}
 use Rattle.candidate_rounds.proofs.Resolution.Quiet.{renumbered-quiet}
 use Rattle.candidate_rounds.proofs.rounds.responding.RenumberingPureFolderCx.may_answer.Goals as goal
 

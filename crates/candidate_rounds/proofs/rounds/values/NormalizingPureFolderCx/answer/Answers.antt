@@ -1,6 +1,6 @@
 use Rattle.std.proofs.Common.{ap, sym, ◌∙◌}
-use Rattle.candidate_ir.specs.Instantiation.Folding.{Answers}
-use Rattle.candidate_ir.specs.Instantiation.Folds.{arg_tree}
+use Rattle.ir_trees.specs.Instantiation.Folding.{Answers}
+use Rattle.ir_trees.specs.Instantiation.Folds.{arg_tree}
 use Rattle.candidate_rounds.proofs.Resolution.Listing.{listed-are}
 use Rattle.candidate_rounds.proofs.rounds.values.NormalizingPureFolderCx.answer.Goals as goal
 

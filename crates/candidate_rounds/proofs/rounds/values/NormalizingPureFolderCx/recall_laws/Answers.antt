@@ -1,4 +1,4 @@
-use Rattle.candidate_ir.proofs.Traversal.FoldStops.{subst-cause}
+use Rattle.ir_folds.proofs.Traversal.FoldStops.{subst-cause}
 use Rattle.candidate_rounds.proofs.Resolution.Listing.{listed-stay, nothing-unasked}
 use Rattle.candidate_rounds.proofs.Snapshots.Knowing.{types-extend}
 use Rattle.candidate_rounds.proofs.rounds.values.NormalizingPureFolderCx.recall_laws.Goals as goal

@@ -1,4 +1,4 @@
-use Rattle.candidate_ir.proofs.Traversal.PureFolder.{said-subst}
+use Rattle.ir_folds.proofs.Traversal.PureFolder.{said-subst}
 use Rattle.candidate_rounds.proofs.rounds.values.PlacingPureFolderCx.answer.Goals as goal
 
 pub returns-clause-cause : goal.returns-clause-cause

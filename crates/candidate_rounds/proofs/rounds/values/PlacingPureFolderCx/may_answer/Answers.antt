@@ -1,5 +1,5 @@
 use Rattle.std.proofs.Common.{reverse, sym, ◌∙◌}
-use Rattle.candidate_ir.specs.declared.ir.heads.Flag.TheVariants as F
+use Rattle.ir_trees.specs.declared.ir.heads.Flag.TheVariants as F
 use Rattle.candidate_rounds.proofs.Resolution.Quiet.{placed_at-quiet}
 use Rattle.candidate_rounds.proofs.rounds.values.PlacingPureFolderCx.may_answer.Goals as goal
 

@@ -1,5 +1,5 @@
 use Rattle.std.proofs.Common.{refl, reverse}
-use Rattle.candidate_ir.proofs.Traversal.FoldStops.{subst-cause}
+use Rattle.ir_folds.proofs.Traversal.FoldStops.{subst-cause}
 use Rattle.candidate_rounds.proofs.Resolution.Placing.{placed-only}
 use Rattle.candidate_rounds.proofs.rounds.values.PlacingPureFolderCx.recall_laws.Goals as goal
 

@@ -1,9 +1,0 @@
-pub mod Tables
-pub mod One
-pub mod Putting
-pub mod Sorts
-pub mod Distinct
-pub mod Kept
-pub mod Making
-pub mod Made
-pub mod Growing

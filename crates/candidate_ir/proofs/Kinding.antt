@@ -1,4 +1,0 @@
-pub mod References
-pub mod Parameters
-pub mod Arity
-pub mod Fitting

@@ -1,4 +1,0 @@
-use Rattle.candidate_ir.proofs.decl.answering.fold_once.Goals as goal
-
-pub returns : goal.returns
-returns g c = c.fold_noted.ensures.number

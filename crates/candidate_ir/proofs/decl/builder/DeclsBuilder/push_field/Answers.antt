@@ -1,6 +1,0 @@
-use Rattle.std.proofs.Common.{refl}
-use Rattle.candidate_ir.proofs.Validity.ListedImpls.{misnamed_listed}
-use Rattle.candidate_ir.proofs.decl.builder.DeclsBuilder.push_field.Goals as goal
-
-pub invariant_of-self-in-None : goal.invariant_of-self-in-None
-invariant_of-self-in-None c = misnamed_listed _ _ _ _ refl

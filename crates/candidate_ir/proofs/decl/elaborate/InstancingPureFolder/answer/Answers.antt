@@ -1,5 +1,0 @@
-use Rattle.candidate_ir.proofs.Hierarchy.Implying.{heads}
-use Rattle.candidate_ir.proofs.decl.elaborate.InstancingPureFolder.answer.Goals as goal
-
-pub returns-clause-cause : goal.returns-clause-cause
-returns-clause-cause g c = heads _ _ c.put_or_renumber.result c.put_or_renumber.ensures.cause

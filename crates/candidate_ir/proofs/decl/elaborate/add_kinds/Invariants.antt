@@ -1,6 +1,0 @@
-use Rattle.candidate_ir.proofs.Instantiation.Joining.{KindsSoFar}
-use Rattle.candidate_ir.proofs.decl.elaborate.add_kinds.Given as goal
-
--- the kinds of those before are added
-abbrev pub invariant-loop-var : goal.invariant-loop-var
-invariant-loop-var l = KindsSoFar l.cx.trees l.var-items l.fn.kinds.items l.var-index l.kinds.items

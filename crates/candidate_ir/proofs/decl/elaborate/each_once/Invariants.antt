@@ -1,5 +1,0 @@
-use Rattle.candidate_ir.proofs.Hierarchy.Listing.{EachOnce}
-use Rattle.candidate_ir.proofs.decl.elaborate.each_once.Given as goal
-
-abbrev pub invariant-loop-clause : goal.invariant-loop-clause
-invariant-loop-clause l = EachOnce l.cx.trees l.fn.clauses l.clause-index l.list.keys

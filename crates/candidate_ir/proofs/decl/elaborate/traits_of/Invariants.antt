@@ -1,5 +1,0 @@
-use Rattle.candidate_ir.proofs.Hierarchy.Numbering.{Numbered}
-use Rattle.candidate_ir.proofs.decl.elaborate.traits_of.Given as goal
-
-abbrev pub invariant-loop-clause : goal.invariant-loop-clause
-invariant-loop-clause l = Numbered l.cx.trees l.fn.list l.clause-index l.ids.items

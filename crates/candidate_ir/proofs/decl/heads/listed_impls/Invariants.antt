@@ -1,6 +1,0 @@
-use Rattle.candidate_ir.proofs.Unification.ImplLists.{ListedSoFar}
-use Rattle.candidate_ir.proofs.decl.heads.listed_impls.Given as goal
-
--- those of the traits before are listed
-abbrev pub invariant-loop-of : goal.invariant-loop-of
-invariant-loop-of l = ListedSoFar l.lists l.nodes l.contents.traits.items l.contents.impls.items l.of

@@ -1,7 +1,0 @@
-use Rattle.std.proofs.Common.{◌≡◌, ◌++◌, take}
-use Rattle.candidate_ir.specs.Validity.Held.{held_values}
-use Rattle.candidate_ir.proofs.decl.held.add_values.Given as goal
-
--- those before are added
-abbrev pub invariant-loop-value : goal.invariant-loop-value
-invariant-loop-value l = l.held.items ≡ l.fn.held.items ++ held_values l.owner (take l.value-index l.values)

@@ -1,9 +1,0 @@
-use Rattle.std.proofs.Common.{◌≡◌, drop}
-use Rattle.std.specs.List.{list_any}
-use Rattle.candidate_ir.specs.Validity.Misplaced.{held_escapes}
-use Rattle.candidate_ir.proofs.decl.misplaced.any_escapes.Given as goal
-
-abbrev pub invariant-loop-held : goal.invariant-loop-held
-invariant-loop-held l =
-    let f = held_escapes l.nodes in
-    list_any f l.fn.held ≡ list_any f (drop l.held-index l.fn.held)

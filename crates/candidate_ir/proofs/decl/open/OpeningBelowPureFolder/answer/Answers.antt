@@ -1,5 +1,0 @@
-use Rattle.candidate_ir.proofs.Traversal.PureFolder.{said-subst}
-use Rattle.candidate_ir.proofs.decl.open.OpeningBelowPureFolder.answer.Goals as goal
-
-pub returns-clause-cause : goal.returns-clause-cause
-returns-clause-cause g c = said-subst c.opened_inside.result _ _ c.opened_inside.ensures.cause

@@ -1,6 +1,0 @@
-use Rattle.candidate_ir.specs.Syntax.Words.{args_forest}
-use Rattle.candidate_ir.proofs.Instantiation.Quiet.{open-quiet, bound-kept}
-use Rattle.candidate_ir.proofs.decl.open.OpeningPureFolder.may_answer.Goals as goal
-
-pub returns : goal.returns
-returns g c = λ ts d t are off. open-quiet (args_forest ts c.args.self.now.values) d t (bound-kept c.args.marks t c.has_bound.result are c.has_bound.ensures off)

@@ -1,5 +1,0 @@
-use Rattle.candidate_ir.proofs.Validity.Plain.{NoneUpTo}
-use Rattle.candidate_ir.proofs.decl.plain.all_are_plain.Given as goal
-
-abbrev pub invariant-loop-held : goal.invariant-loop-held
-invariant-loop-held l = NoneUpTo l.nodes l.definitions l.impls l.fn.held l.held-index

@@ -1,5 +1,0 @@
-use Rattle.candidate_ir.proofs.Instantiation.Quiet.{moved-quiet, bound-kept}
-use Rattle.candidate_ir.proofs.decl.subst.ShiftingPureFolder.may_answer.Goals as goal
-
-pub returns : goal.returns
-returns g c = λ ts d t are off. moved-quiet c.args.self.now.by d t (bound-kept c.args.marks t c.has_bound.result are c.has_bound.ensures off)

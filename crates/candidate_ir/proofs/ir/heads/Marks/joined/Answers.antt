@@ -1,6 +1,0 @@
-use Rattle.candidate_ir.specs.Syntax.Marks.{bit_place}
-use Rattle.candidate_ir.proofs.Syntax.MarkBits.{bit-or}
-use Rattle.candidate_ir.proofs.ir.heads.Marks.joined.Goals as goal
-
-pub returns : goal.returns
-returns c = λ f. bit-or c.args.self.bits c.args.other.bits (bit_place f)

@@ -1,5 +1,0 @@
-use Rattle.std.proofs.Common.{sym, ◌∙◌}
-use Rattle.candidate_ir.proofs.ir.marks.FlagMark.may_stand.Goals as goal
-
-pub returns : goal.returns
-returns c = λ t a n. sym (a c.args.self.now) ∙ (sym c.has.ensures ∙ n)

@@ -1,5 +1,0 @@
-use Rattle.candidate_ir.proofs.Instantiation.Quiet.{variable-kept}
-use Rattle.candidate_ir.proofs.ir.marks.UnsolvedMark.may_stand.Goals as goal
-
-pub returns : goal.returns
-returns c = λ t a n. variable-kept c.args.kept t c.has_infer.result a c.has_infer.ensures n

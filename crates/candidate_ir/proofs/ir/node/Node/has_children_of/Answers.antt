@@ -1,7 +1,0 @@
-use Rattle.std.proofs.Common.{Some, ap, sym, ◌∙◌}
-use Rattle.candidate_ir.proofs.Syntax.Shapes.{agree-more}
-use Rattle.candidate_ir.proofs.ir.node.Node.has_children_of.Goals as goal
-
-pub loop-i-preserved : goal.loop-i-preserved
-loop-i-preserved c =
-    agree-more _ _ c.loop-i.i c.child.result c.loop-i.invariant c.child.ensures (c.child-in-loop-i.ensures ∙ ap Some (sym c.if-child.false))

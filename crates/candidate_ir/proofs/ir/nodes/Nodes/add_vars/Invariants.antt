@@ -1,9 +1,0 @@
-use Rattle.std.proofs.Common.{take}
-use Rattle.std.specs.Prelude.{map}
-use Rattle.candidate_ir.specs.Syntax.Nodes.{var_child}
-use Rattle.candidate_ir.specs.Syntax.Words.{var_kind_tree}
-use Rattle.candidate_ir.proofs.Growth.Growing.{Made, Always}
-use Rattle.candidate_ir.proofs.ir.nodes.Nodes.add_vars.Given as goal
-
-abbrev pub invariant-loop-kind : goal.invariant-loop-kind
-invariant-loop-kind l = Made Always l.fn.self l.self (map var_child l.list.items) (map var_kind_tree (take l.kind-index l.kinds))

@@ -1,4 +1,0 @@
-use Rattle.candidate_ir.proofs.ir.nodes.Nodes.mk_pred_list.Goals as goal
-
-pub returns-clause-fit : goal.returns-clause-fit
-returns-clause-fit c = λ w f. c.add.ensures.fit w f (λ e. cc)

@@ -1,5 +1,0 @@
-use Rattle.candidate_ir.proofs.Growth.Tables.{leaves}
-use Rattle.candidate_ir.proofs.ir.nodes.Nodes.recall_variables_are_leaves.Goals as goal
-
-pub returns : goal.returns
-returns c = leaves c.args.self.now c.self.inside.rows.entries c.self.view_is c.self.invariant.0

@@ -1,5 +1,0 @@
-use Rattle.candidate_ir.proofs.Syntax.Places.{IsAt}
-use Rattle.candidate_ir.proofs.ir.trees.Trees.child.Given as goal
-
-abbrev pub invariant-loop-i : goal.invariant-loop-i
-invariant-loop-i g l = IsAt (g.Self.Trees.trees l.self) l.node l.place l.i l.left

@@ -1,5 +1,0 @@
-use Rattle.std.proofs.Common.{refl}
-use Rattle.candidate_ir.proofs.ir.trees.Trees.has_param.Goals as goal
-
-pub returns : goal.returns
-returns g c = c.has.ensures.list refl

@@ -1,5 +1,0 @@
-use Rattle.candidate_ir.proofs.Traversal.Asking.{arg-below}
-use Rattle.candidate_ir.proofs.ir.trees.Trees.variable_number.Goals as goal
-
-pub head-requires : goal.head-requires
-head-requires g c = rw c.number.ensures (arg-below _ _ c.requires)

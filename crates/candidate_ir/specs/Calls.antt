@@ -1,4 +1,0 @@
-pub mod Plain
-pub mod Cycles
-pub mod Places
-pub mod Walked

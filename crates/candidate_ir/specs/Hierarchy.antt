@@ -1,3 +1,0 @@
-pub mod Supers
-pub mod Supertraits
-pub mod Elaboration

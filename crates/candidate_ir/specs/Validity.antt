@@ -1,6 +1,0 @@
-pub mod Held
-pub mod Misplaced
-pub mod Faults
-pub mod Places
-pub mod ListedImpls
-pub mod WellFormed

@@ -1,0 +1,2 @@
+pub mod Hierarchy
+pub mod Validity

@@ -1,0 +1,10 @@
+use Rattle.std.proofs.Common.{◌≤◌, [], ◌∷◌, length, arith, rules}
+use Rattle.ir_trees.specs.Declarations.Declaring.{no_place}
+use Rattle.ir_context.proofs.Validity.ListedImpls.{definition_added, trait_added}
+use Rattle.ir_builder.proofs.decl.builder.DeclsBuilder.add_trait.Goals as goal
+
+pub invariant_of-self-2 : goal.invariant_of-self-2
+invariant_of-self-2 c =
+    let short : length c.self.inside.contents.traits.items ≤ no_place = omega arith in
+    let kept = trait_added c.self.inside.contents.traits.items _ (record { supers = []; wheres = []; items = []; impls = [] } ∷ []) (search rules) in
+    definition_added _ _ _ _ _ _ _ short c.in_ok-number.ensures.added kept c.self.invariant

@@ -1,0 +1,12 @@
+//! The builder: it takes declarations, and finds what is wrong in them.
+
+pub mod builder;
+pub mod cycles;
+pub mod fault_places;
+pub mod faults;
+pub mod finishing;
+pub mod plain;
+pub mod supers;
+
+pub use builder::DeclsBuilder;
+pub use fault_places::{DeclError, FaultPlace};

@@ -1,0 +1,5 @@
+pub mod Growth
+pub mod Hierarchy
+pub mod Instantiation
+pub mod Unification
+pub mod Validity

@@ -1,0 +1,2 @@
+pub mod FoundImpls
+pub mod KeptLists

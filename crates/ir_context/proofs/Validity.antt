@@ -1,0 +1,4 @@
+pub mod Faults
+pub mod Given
+pub mod ListedImpls
+pub mod WellFormed

@@ -1,0 +1,4 @@
+pub mod Choosing
+pub mod Implying
+pub mod Numbering
+pub mod Saying

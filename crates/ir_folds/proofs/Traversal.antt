@@ -1,0 +1,9 @@
+pub mod FoldBounds
+pub mod FoldKinds
+pub mod FoldLaws
+pub mod FoldNodes
+pub mod FoldRows
+pub mod FoldSteps
+pub mod FoldStops
+pub mod Folds
+pub mod PureFolder

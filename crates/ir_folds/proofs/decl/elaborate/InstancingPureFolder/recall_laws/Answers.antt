@@ -1,0 +1,18 @@
+use Rattle.std.proofs.Common.{ap}
+use Rattle.std.specs.Prelude.{◌-◌}
+use Rattle.ir_trees.specs.Syntax.Trees.{Forest}
+use Rattle.ir_trees.specs.Syntax.Words.{args_forest}
+use Rattle.ir_trees.specs.Instantiation.Folding.{Answers}
+use Rattle.ir_trees.specs.Hierarchy.Elaboration.{instance_head}
+use Rattle.ir_folds.proofs.Traversal.PureFolder.{args-extend}
+use Rattle.ir_folds.proofs.Hierarchy.Implying.{instance-only, renumber-cause}
+use Rattle.ir_folds.proofs.decl.elaborate.InstancingPureFolder.recall_laws.Goals as goal
+
+pub returns-clause-stays : goal.returns-clause-stays
+returns-clause-stays g c = λ ts us e i. let k = args-extend ts us c.args.self.now.args e i in (k.0, ap (λ (f : Forest). let a : Answers = λ d t. instance_head f c.args.self.now.by (d - 1) t.head in a) k.1)
+
+pub returns-clause-only : goal.returns-clause-only
+returns-clause-only g c = λ ts d t e. instance-only (args_forest ts c.args.self.now.args) c.args.self.now.by (d - 1) t.head e
+
+pub returns-clause-cause : goal.returns-clause-cause
+returns-clause-cause g c = renumber-cause

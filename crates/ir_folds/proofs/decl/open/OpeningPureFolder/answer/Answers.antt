@@ -1,0 +1,5 @@
+use Rattle.ir_folds.proofs.Traversal.PureFolder.{said-subst}
+use Rattle.ir_folds.proofs.decl.open.OpeningPureFolder.answer.Goals as goal
+
+pub returns-clause-cause : goal.returns-clause-cause
+returns-clause-cause g c = said-subst c.opened_part.result _ _ c.opened_part.ensures.cause

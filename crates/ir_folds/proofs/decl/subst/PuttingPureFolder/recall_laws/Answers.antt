@@ -1,0 +1,17 @@
+use Rattle.std.proofs.Common.{ap}
+use Rattle.ir_trees.specs.Syntax.Trees.{Forest}
+use Rattle.ir_trees.specs.Syntax.Words.{args_forest}
+use Rattle.ir_trees.specs.Instantiation.Folding.{Answers, put_if_there}
+use Rattle.ir_folds.proofs.Traversal.PureFolder.{args-extend}
+use Rattle.ir_folds.proofs.Traversal.FoldStops.{subst-cause}
+use Rattle.ir_folds.proofs.Instantiation.Substituting.{put-only}
+use Rattle.ir_folds.proofs.decl.subst.PuttingPureFolder.recall_laws.Goals as goal
+
+pub returns-clause-stays : goal.returns-clause-stays
+returns-clause-stays g c = λ ts us e i. let k = args-extend ts us c.args.self.now.args e i in (k.0, ap (λ (f : Forest). let a : Answers = λ d t. put_if_there f d t.head in a) k.1)
+
+pub returns-clause-only : goal.returns-clause-only
+returns-clause-only g c = λ ts d t e. put-only (args_forest ts c.args.self.now.args) d t.head e
+
+pub returns-clause-cause : goal.returns-clause-cause
+returns-clause-cause g c = subst-cause

@@ -1,0 +1,4 @@
+//! Trees folded, instantiated and opened, and super clauses elaborated.
+#![tactic(auto)]
+
+pub mod decl;

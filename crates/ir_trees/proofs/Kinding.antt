@@ -1,0 +1,4 @@
+pub mod Arity
+pub mod Fitting
+pub mod Parameters
+pub mod References

@@ -1,0 +1,12 @@
+pub mod Children
+pub mod Equal
+pub mod Escapes
+pub mod Lists
+pub mod MarkBits
+pub mod Marked
+pub mod Members
+pub mod Places
+pub mod Principals
+pub mod Rows
+pub mod Shapes
+pub mod Splits

@@ -1,0 +1,13 @@
+use Rattle.ir_trees.proofs.Growth.Sorts.{args_node}
+use Rattle.ir_trees.proofs.Syntax.Lists.{below_kind}
+use Rattle.ir_trees.specs.Syntax.Trees.{ArgumentsKind}
+use Rattle.std.proofs.Common.{refl}
+use Rattle.ir_trees.proofs.ir.trees.Trees.args.Goals as goal
+
+pub node-requires : goal.node-requires
+node-requires g c = below_kind _ _ ArgumentsKind refl c.requires
+
+pub unreachable-requires : goal.unreachable-requires
+unreachable-requires g c =
+    let k = args_node (g.Self.Trees.trees c.args.self.now) c.args.args.0 c.node.result.now c.requires c.node.ensures in
+    c.in_default.not-Args k.0 k.1

@@ -1,0 +1,10 @@
+pub mod Contents
+pub mod Context
+pub mod Declaration
+pub mod Declaring
+pub mod Limits
+pub mod Lookups
+pub mod Names
+pub mod Parameters
+pub mod References
+pub mod Worlds

@@ -1,0 +1,3 @@
+pub mod Elaboration
+pub mod Supers
+pub mod Supertraits

@@ -1,0 +1,11 @@
+pub mod Binders
+pub mod Flags
+pub mod Kinds
+pub mod Making
+pub mod Marks
+pub mod Nodes
+pub mod Shapes
+pub mod Table
+pub mod Trees
+pub mod TypeFlags
+pub mod Words

@@ -1,0 +1,5 @@
+pub mod Faults
+pub mod Held
+pub mod ListedImpls
+pub mod Misplaced
+pub mod WellFormed

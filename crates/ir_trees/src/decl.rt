@@ -1,0 +1,18 @@
+//! Declarations as data: what each definition and impl has, heads of impls, limits and faults.
+
+pub mod arity;
+pub mod contents;
+pub mod definition;
+pub mod fault;
+pub mod heads;
+pub mod held;
+pub mod limits;
+pub mod misplaced;
+
+pub use contents::{
+    AliasBoundKind, AssocValue, Destructor, ImplId, ImplPolarity, LangItem, Sizedness,
+};
+pub use definition::{AdtFlags, AdtShape, AliasShape, AssocKind, CrateId, FnFlags, TraitFlags};
+pub use fault::DeclFault;
+pub use held::Owner;
+pub use limits::Limits;
