@@ -2,7 +2,8 @@
 """What the texts in `crates/texts/data` are answered by plain Rust of the sources, beside what stands there.
 
     texts.py [FILE ..]              shows each text that is answered otherwise; of all files where none is named
-    texts.py --accept [FILE ..]     writes those answers into the files, too, and the counts into `crates/texts/stdout`
+    texts.py --accept [FILE ..]     writes those answers into the files, too, and the counts into `crates/texts/stdout`; into `worked`,
+                                    whose answers say what the language means, it writes none
     texts.py --build FOLDER ..      leaves the plain program in the folder, and keeps one that is there of the same sources
 
 How a file is written is said at the head of `crates/texts/src/main.rt`. To add a text, write its lines below a line `==== TITLE`, without answers: they
@@ -24,6 +25,9 @@ import tempfile
 ROOT = os.path.dirname(os.path.dirname(os.path.abspath(__file__)))
 CRATE = os.path.join(ROOT, "crates", "texts")
 DATA = os.path.join(CRATE, "data")
+
+# Files whose answers are written by hand.
+BY_HAND = {"worked"}
 
 # Between a query and the first word of its answer.
 ANSWER = " => "
@@ -184,14 +188,14 @@ def compare(program, files, is_accepting):
         changed += 1
         show(text, printed, said, status)
         lines = text.filled(program, status, printed, said)
-        if lines is None:
-            print("  it can't be written")
+        if lines is None or text.file in BY_HAND:
+            print("  it can't be written" if lines is None else "  its answers are written by hand")
             stuck += 1
         elif is_accepting:
             edits.setdefault(text.file, []).append((text.start, len(text.lines), lines))
     for file, found in edits.items():
         rewrite(path_of(file), found)
-    print("%d texts, %d %s%s" % (count, changed, "written" if is_accepting else "would change", ", %d can't be written" % stuck if stuck else ""))
+    print("%d texts, %d %s%s" % (count, changed - stuck if is_accepting else changed, "written" if is_accepting else "would change", ", %d can't be written" % stuck if stuck else ""))
     return changed, stuck
 
 

@@ -1,5 +1,6 @@
 -- What queries of a text are answered.
-use Rattle.std.specs.Prelude.{◌≡◌, ◌++◌, ℕ, List, Result, Ok, take}
+use Rattle.std.specs.Prelude.{◌≡◌, ◌++◌, ◌∷◌, [], ℕ, Bool, List, Result, Ok, nat_eq, take}
+use Rattle.std.specs.Cmp.Lexicographic.{pointwise}
 use Rattle.ir_trees.specs.declared.ir.kinds.AliasTy.{AliasTy}
 use Rattle.ir_trees.specs.declared.ir.kinds.TraitPredicate.{TraitPredicate}
 use Rattle.ir_trees.specs.declared.ir.kinds.TraitRef.{TraitRef}
@@ -9,7 +10,7 @@ use Rattle.candidate_eval.specs.declared.coherence.InCrate.{InCrate}
 use Rattle.candidate_eval.specs.Knowability.Answers.{knowledge_of}
 use Rattle.candidate_eval.specs.Knowability.Calls.{plain_check_of, plain_knowledge_about}
 use Rattle.assembly_notation.specs.declared.given.Given.{Given}
-use Rattle.assembly_notation.specs.Lines.{rounds_of_line}
+use Rattle.assembly_notation.specs.Lines.{first_word, rounds_of_line}
 use Rattle.assembly_text.specs.Explaining.{AddsCandidates}
 use Rattle.assembly_text.specs.Printing.{IsCheckText, known_text}
 use Rattle.assembly_text.specs.Normalizing.{AddsNormal}
@@ -43,13 +44,18 @@ pub record AddsSomeCandidates (line : List ℕ) (first : Context) (g : Given) (l
   pub predicate : TraitPredicate
   pub adds : AddsCandidates context g predicate (rounds_of_line line) last old new
 
--- What some projection comes to over what is declared, under what is given, in the rounds that the line names.
+-- whether the first word of what is left of a line is `*`: as many rounds as it takes
+abbrev pub names_all : List ℕ → Bool
+names_all line = pointwise nat_eq (first_word line) (42 ∷ [])
+
+-- What some projection comes to over what is declared, under what is given, in the rounds that the line names; behind `*` once the goal of its
+-- trait is final.
 pub record AddsSomeNormal (line : List ℕ) (first : Context) (g : Given) (last : Context) (old new : List ℕ) : Type 0 where
   pub context : Context
   pub read : Grows first context
   pub left : Grows context last
   pub alias : AliasTy
-  pub adds : AddsNormal context g alias (rounds_of_line line) last old new
+  pub adds : AddsNormal context g alias (rounds_of_line line) (names_all line) last old new
 
 -- Whether all impls of some reference are known by what is declared, where no type is normalised.
 pub record AddsSomeKnown (first last : Context) (old new : List ℕ) : Type 0 where

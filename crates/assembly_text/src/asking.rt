@@ -12,7 +12,7 @@ ghost use Rattle.candidate_eval.specs.declared.coherence.Conflict.{Conflict};
 ghost use Rattle.candidate_rounds.specs.declared.rounds.goals.Verdict.{Verdict};
 ghost use Rattle.assembly_notation.specs.Given.{GivenFits, GivenIsDeclared};
 ghost use Rattle.ir_trees.specs.Declarations.Context.{Grows};
-ghost use Rattle.assembly_text.specs.Asking.{AddsSomeCheck, AddsSomeGoal, AddsSomeKnown, AddsSomeNormal, AddsSomeValues, declared_part};
+ghost use Rattle.assembly_text.specs.Asking.{AddsSomeCheck, AddsSomeGoal, AddsSomeKnown, AddsSomeNormal, AddsSomeValues, declared_part, names_all};
 ghost use Rattle.assembly_text.specs.Normalizing.{AddsNormal, IsNormal, IsNormalSolved, IsReadProjection};
 ghost use Rattle.assembly_text.specs.Negating.{AddsSomeOverlap};
 ghost use Rattle.assembly_text.specs.Overlapping.{IsOverlapAnyway, IsOverlapSolved, IsOverlapStopped};
@@ -446,22 +446,23 @@ impl<'a> Asking<'a> {
         (rest.with(maker), solved)
     }
 
-    /// What follows `normalize`: in how many rounds, and the projection.
+    /// What follows `normalize`: in how many rounds, whether that is as many as it takes, and the projection.
     ///
     /// Besides the faults of the words, `Fault::NotAnAlias` comes where the type is no projection.
-    fn projection<'b>(&mut self, words: &mut Words<'b>) -> Result<(u16, AliasTy), Fault<'b>>
+    fn projection<'b>(&mut self, words: &mut Words<'b>) -> Result<(u16, bool, AliasTy), Fault<'b>>
         ensures some { IfOk result (λ r. 0 < r.0) }
         ensures named { IfOk result (λ r. r.0 ≡ rounds_of_line words.old.rest.now) }
-        ensures projection { IfOk result (λ r. IsReadProjection self.new.scope.maker r.1) }
+        ensures all { IfOk result (λ r. r.1 ≡ names_all words.old.rest.now) }
+        ensures projection { IfOk result (λ r. IsReadProjection self.new.scope.maker r.2) }
         ensures grows { Grows self.old.scope.maker self.new.scope.maker }
         ensures given { self.new.given ≡ self.old.given }
         ensures answer { self.new.answer ≡ self.old.answer }
     {
-        let count = rounds(words)?;
+        let (count, waits) = rounds_or_all(words)?;
         let ty = self.scope.read_type(words, Binders::none(), MAX_DEPTH)?;
         let alias = projection_of(&self.scope.maker, ty)?;
         words.end()?;
-        Ok((count, alias))
+        Ok((count, waits, alias))
     }
 
     /// What follows `overlap`: in how many rounds, and two impls.
@@ -572,37 +573,47 @@ impl<'a> Asking<'a> {
     {
         self.forget();
         match self.projection(&mut words) {
-            Ok((count, alias)) => {
-                let (asking, made) = self.answered_with_normal(alias, count);
+            Ok((count, waits, alias)) => {
+                let (asking, made) = self.answered_with_normal(alias, count, waits);
                 (asking, Ok(made))
             }
             Err(fault) => (self, Err(fault)),
         }
     }
 
-    /// Adds what the projection comes to in so many rounds at most.
-    fn answered_with_normal(self, alias: AliasTy, count: u16) -> (Asking<'a>, Result<(), Stop>)
+    /// Adds what the projection comes to in so many rounds at most, or, if it `waits`, once the goal of its trait is final.
+    fn answered_with_normal(
+        self,
+        alias: AliasTy,
+        count: u16,
+        waits: bool,
+    ) -> (Asking<'a>, Result<(), Stop>)
         requires some { 0 < count }
         requires projection { IsReadProjection self.scope.maker alias }
         ensures grows { Grows self.entry.scope.maker result.0.scope.maker }
-        ensures adds { OnOk result.1 (AddsNormal self.entry.scope.maker self.entry.given alias count result.0.scope.maker (string_bytes self.entry.answer) (string_bytes result.0.answer)) }
+        ensures adds { OnOk result.1 (AddsNormal self.entry.scope.maker self.entry.given alias count waits result.0.scope.maker (string_bytes self.entry.answer) (string_bytes result.0.answer)) }
     {
-        let (mut asking, normal) = self.normalized(alias, count);
+        let (mut asking, normal) = self.normalized(alias, count, waits);
         let made = asking.print_normal(normal);
         (asking, made)
     }
 
-    /// What the projection comes to in so many rounds at most.
-    fn normalized(self, alias: AliasTy, count: u16) -> (Asking<'a>, Result<Normal, Stop>)
+    /// What the projection comes to, as `normalize` has it.
+    fn normalized(
+        self,
+        alias: AliasTy,
+        count: u16,
+        waits: bool,
+    ) -> (Asking<'a>, Result<Normal, Stop>)
         requires some { 0 < count }
         requires projection { IsReadProjection self.scope.maker alias }
         ensures grows { Grows self.entry.scope.maker result.0.scope.maker }
         ensures sort { IfOk result.1 (IsNormal result.0.scope.maker.trees) }
-        ensures comes { IfOk result.1 (λ n. IsNormalSolved self.entry.scope.maker self.entry.given alias count result.0.scope.maker n) }
+        ensures comes { IfOk result.1 (λ n. IsNormalSolved self.entry.scope.maker self.entry.given alias count waits result.0.scope.maker n) }
         ensures answer { result.0.answer ≡ self.entry.answer }
     {
         let (maker, rest) = self.apart();
-        let (maker, normal) = normalize(rest.alloc, maker, &rest.given, alias, count);
+        let (maker, normal) = normalize(rest.alloc, maker, &rest.given, alias, count, waits);
         (rest.with(maker), normal)
     }
 
@@ -649,13 +660,23 @@ pub(crate) fn rounds<'a>(words: &mut Words<'a>) -> Result<u16, Fault<'a>>
     ensures some { IfOk result (λ n. 0 < n) }
     ensures named { IfOk result (λ n. n ≡ rounds_of_line words.old.rest.now) }
 {
+    let (count, _) = rounds_or_all(words)?;
+    Ok(count)
+}
+
+/// The same, and whether it is `*`.
+fn rounds_or_all<'a>(words: &mut Words<'a>) -> Result<(u16, bool), Fault<'a>>
+    ensures some { IfOk result (λ n. 0 < n.0) }
+    ensures named { IfOk result (λ n. n.0 ≡ rounds_of_line words.old.rest.now) }
+    ensures all { IfOk result (λ n. n.1 ≡ names_all words.old.rest.now) }
+{
     let mut ahead = *words;
     match ahead.next_word() {
         Some(word) if is_star(word) => {
             *words = ahead;
-            Ok(MAX_ROUNDS)
+            Ok((MAX_ROUNDS, true))
         }
-        _ => words.number(1, MAX_ROUNDS),
+        _ => Ok((words.number(1, MAX_ROUNDS)?, false)),
     }
 }
 

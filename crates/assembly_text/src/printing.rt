@@ -219,7 +219,7 @@ impl Asking<'_> {
         ensures stopped { IfErr normal (λ s. result ≡ Err s) }
     {
         match normal? {
-            Normal::Unasked => Ok(self.answer.push_str("maybe\n")?),
+            Normal::Unasked | Normal::Open => Ok(self.answer.push_str("maybe\n")?),
             Normal::Refused => Ok(self.answer.push_str("refused\n")?),
             Normal::Answered(response) => match response.certainty {
                 Certainty::Yes => self.print_normal_type(response.values),

@@ -11,8 +11,9 @@ ghost use Rattle.candidate_eval.specs.Knowability.Calls.{HasNoParam};
 ghost use Rattle.candidate_rounds.specs.Evaluators.Interface.{fixed};
 ghost use Rattle.candidate_rounds.specs.Evaluators.Known.{IsGiven, listing_of, state};
 ghost use Rattle.rounds_judge.specs.Aliases.WellListed.{well_listed};
+ghost use Rattle.rounds_judge.specs.Table.GoalTable.{may_be_asked};
 ghost use Rattle.assembly_notation.specs.Given.{GivenFits};
-ghost use Rattle.assembly_text.specs.Normalizing.{IsNormal, IsNormalSolved, IsReadProjection, NormalComes, NormalComesUnder};
+ghost use Rattle.assembly_text.specs.Normalizing.{IsNormal, IsNormalOf, IsNormalSolved, IsReadProjection, IsSettledNormalOf, NormalComes, NormalComesUnder, trait_key};
 ghost use Rattle.candidate_rounds.specs.Table.Normalizing.{IsProjection};
 ghost use Rattle.assembly_text.specs.Overlapping.{IsOverlapAnyway, IsOverlapSolved, IsOverlapStopped};
 ghost use Rattle.assembly_text.specs.Specializing.{IsNegationAnswered, IsTestStopped, IsTested, IsTesterFor};
@@ -332,14 +333,16 @@ pub fn solve_for_values(
 pub enum Normal {
     /// It may not be asked, as none of a text.
     Unasked,
+    /// The goal of its trait is a Maybe, and only an answer counts that no further round takes back.
+    Open,
     /// No type, as far as the rules go.
     Refused,
     /// What a response says. The last of its values is the projection's type.
     Answered(CanonicalResponse),
 }
 
-/// What the projection comes to in so many rounds at most. Nothing is answered where it may not be asked, as none of a text is.
-fn run_normal(
+/// What the evaluator answers of the projection in that many rounds at most. It stops as `Rounds::normalize` does.
+fn normal_after(
     alloc: Global,
     rounds: &mut Rounds,
     env: ParamEnv,
@@ -348,44 +351,91 @@ fn run_normal(
 ) -> Result<Normal, Stop>
     requires some { 0 < count }
     requires projection { IsProjection rounds.old.context env alias }
+    requires asked { may_be_asked (trait_key rounds.old env alias) ≡ true }
     ensures grows { Grows rounds.old.context rounds.new.context }
     ensures sort { IfOk result (IsNormal rounds.new.context.trees) }
-    ensures comes { IfOk result (λ n. NormalComes rounds.old env alias count rounds.new n) }
+    ensures is { IfOk result (λ n. IsNormalOf rounds.old env alias count rounds.new n) }
 {
-    let predicate = trait_predicate(rounds.cx(), alias);
-    if !rounds.may_be_run(alloc, env, predicate)? {
-        return Ok(Normal::Unasked);
-    }
     match rounds.normalize(alloc, env, alias, count)? {
         Some(response) => Ok(Normal::Answered(response)),
         None => Ok(Normal::Refused),
     }
 }
 
-/// What the projection comes to under these clauses, in so many rounds at most.
+/// The same where only an answer counts that no further round takes back: the goal of the projection's trait is run first, and is final.
+fn settled_normal(
+    alloc: Global,
+    rounds: &mut Rounds,
+    env: ParamEnv,
+    alias: AliasTy,
+    count: u16,
+) -> Result<Normal, Stop>
+    requires some { 0 < count }
+    requires projection { IsProjection rounds.old.context env alias }
+    requires asked { may_be_asked (trait_key rounds.old env alias) ≡ true }
+    ensures grows { Grows rounds.old.context rounds.new.context }
+    ensures sort { IfOk result (IsNormal rounds.new.context.trees) }
+    ensures is { IfOk result (λ n. IsSettledNormalOf rounds.old env alias count rounds.new n) }
+{
+    let predicate = trait_predicate(rounds.cx(), alias);
+    match rounds.run(alloc, env, predicate, count)? {
+        Verdict::Maybe(_, _) => Ok(Normal::Open),
+        Verdict::Yes(_, _) | Verdict::Refused => normal_after(alloc, rounds, env, alias, count),
+    }
+}
+
+/// What the projection comes to in so many rounds at most; if it `waits`, only an answer counts that no further round takes back. Nothing is
+/// answered where it may not be asked, as none of a text is.
+fn run_normal(
+    alloc: Global,
+    rounds: &mut Rounds,
+    env: ParamEnv,
+    alias: AliasTy,
+    count: u16,
+    waits: bool,
+) -> Result<Normal, Stop>
+    requires some { 0 < count }
+    requires projection { IsProjection rounds.old.context env alias }
+    ensures grows { Grows rounds.old.context rounds.new.context }
+    ensures sort { IfOk result (IsNormal rounds.new.context.trees) }
+    ensures comes { IfOk result (λ n. NormalComes rounds.old env alias count waits rounds.new n) }
+{
+    let predicate = trait_predicate(rounds.cx(), alias);
+    if !rounds.may_be_run(alloc, env, predicate)? {
+        return Ok(Normal::Unasked);
+    }
+    if waits {
+        return settled_normal(alloc, rounds, env, alias, count);
+    }
+    normal_after(alloc, rounds, env, alias, count)
+}
+
+/// What the projection comes to under these clauses, as `run_normal` has it.
 fn ask_normal(
     alloc: Global,
     rounds: &mut Rounds,
     clauses: &[Clause],
     alias: AliasTy,
     count: u16,
+    waits: bool,
 ) -> Result<Normal, Stop>
     requires some { 0 < count }
     requires clauses { ClauseListFits rounds.old.context.trees clauses.now }
     requires projection { IsReadProjection rounds.old.context alias }
     ensures grows { Grows rounds.old.context rounds.new.context }
     ensures sort { IfOk result (IsNormal rounds.new.context.trees) }
-    ensures comes { IfOk result (λ n. NormalComesUnder rounds.old rounds.new clauses.now alias count n) }
+    ensures comes { IfOk result (λ n. NormalComesUnder rounds.old rounds.new clauses.now alias count waits n) }
 {
     if rounds.cx().has_escaping_bound_vars(alias.args) {
         return Ok(Normal::Unasked);
     }
     let under = rounds.mk_param_env(clauses)?;
     add_roots(rounds, alias.args)?;
-    run_normal(alloc, rounds, under, alias, count)
+    run_normal(alloc, rounds, under, alias, count, waits)
 }
 
 /// What a projection comes to in a new evaluator, in so many rounds at most; and the context, with the nodes that were made meanwhile.
+/// If it `waits`, only an answer counts that no further round takes back: while the goal of its trait is a Maybe, the projection is open.
 /// Nothing is answered where it may not be asked, as none of a text is. It stops as `Rounds::normalize` does.
 pub fn normalize(
     alloc: Global,
@@ -393,18 +443,19 @@ pub fn normalize(
     given: &Given,
     alias: AliasTy,
     count: u16,
+    waits: bool,
 ) -> (Cx, Result<Normal, Stop>)
     requires some { 0 < count }
     requires given { GivenFits cx.trees given.now }
     requires projection { IsReadProjection cx alias }
     ensures grows { Grows cx result.0 }
     ensures sort { IfOk result.1 (IsNormal result.0.trees) }
-    ensures comes { IfOk result.1 (λ n. IsNormalSolved cx given.now alias count result.0 n) }
+    ensures comes { IfOk result.1 (λ n. IsNormalSolved cx given.now alias count waits result.0 n) }
 {
     match evaluator(alloc, cx, given) {
         Ok(mut rounds) => {
             let clauses = given.clauses.as_slice();
-            let normal = ask_normal(alloc, &mut rounds, clauses, alias, count);
+            let normal = ask_normal(alloc, &mut rounds, clauses, alias, count, waits);
             (context_of(rounds), normal)
         }
         Err((cx, stop)) => (cx, Err(stop)),

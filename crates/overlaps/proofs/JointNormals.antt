@@ -49,7 +49,7 @@ use Rattle.overlaps.proofs.Stopping.{later-known, later-table, later-then, step-
 use Rattle.overlaps.specs.Apart.{aside}
 use Rattle.overlaps.specs.Refused.{StaysBesideKnown}
 use Rattle.overlaps.specs.Stopping.{IsLater, IsOverlapStop, step_normalizing}
-use Rattle.overlaps.specs.Together.{AreLeft, CameOf, IsGivenAs, IsNormalAt, IsObligation, IsProjectedAs, IsProjectionType, Obligation, StandsIn, gives_at, next_type, pending_at, pendings_at, with_type}
+use Rattle.overlaps.specs.Together.{AreLeft, CameOf, HasYes, IsGivenAs, IsNormalAt, IsObligation, IsProjectedAs, IsProjectionType, Obligation, StandsIn, gives_at, next_type, pending_at, pendings_at, with_type}
 use Rattle.overlaps.specs.declared.together.ProjectionType.{ProjectionType}
 use Rattle.overlaps.specs.declared.together.ProjectionType.TheVariants as P
 
@@ -91,6 +91,7 @@ normal-at old mid env a response known stays env-fits empty fits came sure gives
       table = table_of mid;
       trees = mid.context.trees;
       response = response;
+      trait_holds = subst (λ (S : State). HasYes (table_of by) (key_at S (goal_of_trait by.context env a))) came.stands came.trait_holds;
       comes = came.comes;
       sure = sure;
       gives = subst (λ (x : Listing × State × TraitGoal). with_normal x.0 x.1 x.2 (response_of mid.context.trees response) ≡ known) (λ i. (l i, s i, q i)) gives;
@@ -126,13 +127,22 @@ pub asked-later : (c d : Context) (S : State) (e : ParamEnv) (a : AliasTy) (p : 
     → may_be_asked (key_at S (goal_of_trait d e a)) ≡ true
 asked-later c d S e a p g by h = subst (λ (q : TraitPredicate). may_be_asked (key_at S (trait_goal d.trees e q)) ≡ true) (by ∙ sym (predicate-kept c d a g)) h
 
+-- The key of its trait's goal is the same later on, where the state stays.
+pub trait-key-later : (r s : Evaluator) (old : Context) (e : ParamEnv) (a : AliasTy) (p : TraitPredicate) → StaysBesideTable r s → Grows old s.context → p ≡ trait_predicate old a
+    → IsGoal trait_kind r.context e p → key_at (state r) (trait_goal r.context.trees e p) ≡ key_at (state s) (goal_of_trait s.context e a)
+trait-key-later r s old e a p stays grows by h =
+    let goal : trait_goal r.context.trees e p ≡ goal_of_trait s.context e a
+    = sym (trait-goal-kept r.context s.context e p stays.grows h).1 ∙ ap (λ (q : TraitPredicate). trait_goal s.context.trees e q) (by ∙ sym (predicate-kept old s.context a grows)) in
+    let stands = stays.state_same in
+    λ i. key_at (sym stands i) (goal i)
+
 -- What normalising it answers, and why it stops.
 
 pub came-of : (old by new : Evaluator) (e : ParamEnv) (a : AliasTy) (n : ℕ) (r : Result (Option CanonicalResponse) Stop) → StaysBesideTable old by
-    → IsNormalized new.context.trees by e a n (table_of new) r → IfOk r (λ o. IfSome o (CameOf old new e a))
-came-of old by new e a n (Ok (Some x)) stays h = record { by = by; later = later-table stays; stands = stays.state_same; rounds = n; comes = h }
-came-of old by new e a n (Ok None) stays h = tt
-came-of old by new e a n (Err s) stays h = tt
+    → HasYes (table_of by) (key_at (state by) (goal_of_trait by.context e a)) → IsNormalized new.context.trees by e a n (table_of new) r → IfOk r (λ o. IfSome o (CameOf old new e a))
+came-of old by new e a n (Ok (Some x)) stays yes h = record { by = by; later = later-table stays; stands = stays.state_same; rounds = n; trait_holds = yes; comes = h }
+came-of old by new e a n (Ok None) stays yes h = tt
+came-of old by new e a n (Err s) stays yes h = tt
 
 pub normalizing-stop : (old by new : Evaluator) (e : ParamEnv) (a : AliasTy) (n : ℕ) (r : Result (Option CanonicalResponse) Stop) → IsLater old by
     → IsNormalized new.context.trees by e a n (table_of new) r → IfErr r (IsOverlapStop old new)

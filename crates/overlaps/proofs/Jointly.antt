@@ -87,6 +87,7 @@ normal-earlier l n = record {
   table = n.table;
   trees = n.trees;
   response = n.response;
+  trait_holds = n.trait_holds;
   comes = n.comes;
   sure = n.sure;
   gives = n.gives;

@@ -30,6 +30,7 @@ use Rattle.candidate_eval.specs.declared.eval.variable.VariableKind.TheVariants.
 use Rattle.candidate_eval.specs.Interface.Evaluators.{HasTree, IsGoal, accepted, pending_of, pendings_of}
 use Rattle.candidate_eval.specs.Judges.States.{Pending, State, resolved_tree, variable, with_pending}
 use Rattle.candidate_eval.specs.Outcomes.ResponseTrees.{response_of}
+use Rattle.candidate_eval.specs.Outcomes.Responses.{Response}
 use Rattle.candidate_assembly.specs.Rules.Opaques.{with_type_for}
 use Rattle.candidate_rounds.specs.Evaluators.Interface.{fixed, judge_of}
 use Rattle.candidate_rounds.specs.Evaluators.Known.{Each, Evaluator, listing, state, table_of}
@@ -38,7 +39,9 @@ use Rattle.candidate_rounds.specs.Table.Normalized.{IsNormalized}
 use Rattle.candidate_rounds.specs.Table.Normalizing.{goal_of_trait}
 use Rattle.candidate_rounds.specs.Table.Projected.{with_normal}
 use Rattle.rounds_judge.specs.Obligations.Settling.{alias_of, term_of}
-use Rattle.rounds_judge.specs.Table.GoalTable.{GoalTable}
+use Rattle.rounds_judge.specs.Table.GoalTable.{GoalTable, verdict_in}
+use Rattle.rounds_judge.specs.Table.Keys.{Key, key_at}
+use Rattle.rounds_judge.specs.Table.Verdicts as verdict
 use Rattle.overlaps.specs.Apart.{OfDeclared, aside, opened}
 use Rattle.overlaps.specs.Ordered.{in_order}
 use Rattle.overlaps.specs.Refused.{ClauseWasRefused, MakesHeadersEqual, headers_equated, locals_of}
@@ -94,8 +97,15 @@ pub record GoalIsRefused (r : Evaluator) (S : State) (p : Pending) : Type 0 wher
 abbrev pub gives_at : Evaluator → ParamEnv → AliasTy → CanonicalResponse → Option State
 gives_at r env alias response = with_normal (listing r) (state r) (goal_of_trait r.context env alias) (response_of r.context.trees response)
 
--- At the state a sure answer says what the projection is, asked of an evaluator that comes after, without an environment; and this is known once
--- what it says is given, with the variable that comes next for the type: nothing, where that can't be.
+-- The table has a yes for the goal of that key, which no further round takes back.
+pub record HasYes (T : GoalTable Via) (k : Key) : Type 0 where
+  pub response : Response
+  pub way : Option Via
+  pub yes : verdict_in T k ≡ Some (verdict.Yes response way)
+
+-- At the state a sure answer says what the projection is, asked of an evaluator that comes after, without an environment, and whose table has a
+-- yes for the goal that the projection's trait holds; and this is known once what it says is given, with the variable that comes next for the
+-- type: nothing, where that can't be.
 pub record IsNormalAt (r : Evaluator) (S : State) (projection : Tree) (known : Option State) : Type 0 where
   pub by : Evaluator
   pub later : IsLater r by
@@ -108,6 +118,7 @@ pub record IsNormalAt (r : Evaluator) (S : State) (projection : Tree) (known : O
   pub table : GoalTable Via
   pub trees : List Tree
   pub response : CanonicalResponse
+  pub trait_holds : HasYes (table_of by) (key_at S (goal_of_trait by.context env alias))
   pub comes : IsNormalized trees by env alias rounds table (Ok (Some response))
   pub sure : response.certainty ≡ Yes
   pub gives : with_normal (listing by) S (goal_of_trait by.context env alias) (response_of trees response) ≡ known
@@ -174,12 +185,13 @@ IsProjectedAs old new projection P.Impossible = IsNormalAt old (state old) proje
 IsProjectedAs old new projection (P.Type type) =
     IsNormalAt old (state old) projection (Some (state new)) × HasTree new.context.trees type (next_type (state old))
 
--- That response came of normalising the projection in some rounds, where the state stayed.
+-- That response came of normalising the projection in some rounds, where the state stayed and the goal of its trait holds.
 pub record CameOf (old new : Evaluator) (env : ParamEnv) (alias : AliasTy) (response : CanonicalResponse) : Type 0 where
   pub by : Evaluator
   pub later : IsLater old by
   pub stands : state by ≡ state old
   pub rounds : ℕ
+  pub trait_holds : HasYes (table_of by) (key_at (state by) (goal_of_trait by.context env alias))
   pub comes : IsNormalized new.context.trees by env alias rounds (table_of new) (Ok (Some response))
 
 -- What a response says of a projection was given, if it is sure.

@@ -212,8 +212,29 @@ fn may_be_sure(verdict: &Option<Verdict>) -> bool {
     }
 }
 
+/// Whether the goal, which may be run, holds after that many rounds at most. It stops as `Rounds::run` does.
+fn is_proved(
+    alloc: Global,
+    rounds: &mut Rounds,
+    env: ParamEnv,
+    predicate: TraitPredicate,
+    count: u16,
+) -> Result<bool, Stop>
+    requires some { 0 < count }
+    requires goal { IsGoal trait_kind rounds.old.context env predicate }
+    requires asked { may_be_asked (key_at (state rounds.old) (trait_goal rounds.old.context.trees env predicate)) ≡ true }
+    ensures stays { StaysBesideTable rounds.old rounds.new }
+    ensures yes { let k = key_at (state rounds.old) (trait_goal rounds.old.context.trees env predicate) in IfOk result (λ b. b ≡ true → HasYes (table_of rounds.new) k) }
+    ensures cause { IfErr result (IsOverlapStop rounds.old rounds.new) }
+{
+    match rounds.run(alloc, env, predicate, count)? {
+        Verdict::Yes(_, _) => Ok(true),
+        Verdict::Maybe(_, _) | Verdict::Refused => Ok(false),
+    }
+}
+
 /// What the projection is, where its arguments are those that it takes, and its trait's goal stands at what is known: it is normalised in so many
-/// rounds.
+/// rounds, if that goal holds by then. So no further round takes back what is answered.
 fn normal(
     alloc: Global,
     rounds: &mut Rounds,
@@ -242,6 +263,9 @@ fn normal(
         return Ok(None);
     }
     if !rounds.may_be_run(alloc, env, predicate)? {
+        return Ok(None);
+    }
+    if !is_proved(alloc, rounds, env, predicate, count)? {
         return Ok(None);
     }
     rounds.normalize(alloc, env, alias, count)
