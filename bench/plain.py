@@ -29,6 +29,7 @@ import texts
 ROOT = os.path.dirname(os.path.dirname(os.path.abspath(__file__)))
 KIT = os.path.join(ROOT, "bench", "plain", "kit.rs")
 SPELLING = "spelling"  # stands beside the program, for who calls the libraries
+FACADE = "candidate_ir"  # the paths of its inner crates, for who calls the libraries
 PROGRAM = "assembly"
 FLAGS = ["--edition", "2021", "-O", "-C", "codegen-units=1", "-A", "warnings"]
 
@@ -218,15 +219,15 @@ def build_all(folder, programs, is_kept=False, above=()):
 
 def build_over(folder, root, library):
     """The program that the file has in plain Rust, made in the folder over a library of the sources and all below it."""
-    build_all(folder, [], above=[library])
+    build_all(folder, [], above=[library, FACADE])
     name = os.path.splitext(os.path.basename(root))[0]
-    compile_crate(name, root, ["kit", *in_order(library, libraries(), [])], folder, True)
+    compile_crate(name, root, ["kit", *in_order(FACADE, libraries(), in_order(library, libraries(), []))], folder, True)
     return os.path.join(folder, name)
 
 
 def build(folder):
     """The plain program `assembly`, which is made in the folder."""
-    return build_all(folder, [PROGRAM])[0]
+    return build_all(folder, [PROGRAM], above=[FACADE])[0]
 
 
 def held_prelude():
@@ -310,7 +311,9 @@ def write_cargo(folder):
     held_prelude()
     uses = libraries()
     stored = itertools.chain([stored_run()], *texts.tested().values())
-    crates = in_order(SPELLING, uses, in_order("examples", uses, in_order("texts", uses, in_order(PROGRAM, uses, []))))
+    crates = []
+    for name in (PROGRAM, "texts", "examples", SPELLING, FACADE):
+        in_order(name, uses, crates)
     plain_cargo.write_workspace(folder, ROOT, crates, uses, plain_with_docs, PRELUDE, KIT, stored)
 
 

@@ -47,6 +47,9 @@ ERRORS = {
     "candidate_eval": [("crate::eval::refusal::NoSolutionOrStop", True)],
 }
 
+# What tests and examples of a package name beside what the package uses.
+TESTED_OVER = {"candidate_eval": ["candidate_ir"], "overlaps": ["candidate_ir"]}
+
 DOC = re.compile(r"\s*//[/!]")
 ATTRIBUTE = re.compile(r"\s*#!?\[")
 ENDS = re.compile(r"\s*(?:[})\]]|$)")
@@ -142,8 +145,15 @@ def write_sources(crate, source, to, plain, prelude):
     return told
 
 
+def named(uses):
+    """The lines of a manifest that name packages of the workspace."""
+    return "".join('%s = { path = "../%s" }\n' % (used, used) for used in uses)
+
+
 def write_package(folder, name, told, uses):
-    depends = "".join('%s = { path = "../%s" }\n' % (used, used) for used in uses)
+    depends = named(uses)
+    if name in TESTED_OVER:
+        depends += "\n[dev-dependencies]\n" + named(TESTED_OVER[name])
     put(os.path.join(folder, name, "Cargo.toml"), MANIFEST % (name, told, depends))
 
 

@@ -25,7 +25,6 @@ use Rattle.candidate_rounds.specs.Table.Running.{StaysBesideTable, computing}
 use Rattle.rounds_judge.specs.Table.GoalTable.{may_be_asked, verdict_in}
 use Rattle.rounds_judge.specs.Table.Keys.{Key, key_at}
 use Rattle.rounds_judge.specs.Table.Rounds.{IsRun}
-use Rattle.rounds_judge.specs.Table.Verdicts.{is_final}
 use Rattle.rounds_judge.specs.Table.Verdicts as verdict
 use Rattle.assembly_notation.specs.declared.given.Given.{Given}
 use Rattle.assembly_notation.specs.Spelling.{AddsEach}
@@ -58,13 +57,15 @@ trait_key s env a = key_at (state s) (goal_of_trait s.context env a)
 pub data IsNormalOf (s : Evaluator) (env : ParamEnv) (a : AliasTy) (count : ℕ) (last : Evaluator) : Normal → Type 0 where
   is_normal : (o : Option CanonicalResponse) → IsNormalized last.context.trees s env a count (table_of last) (Ok o) → IsNormalOf s env a count last (normal_by o)
 
--- The same where only an answer counts that no further round takes back: the goal of the projection's trait is run first. Where that is a Maybe,
--- the projection is open; where it is final, the projection is normalised.
+-- The same where only an answer counts that no further round takes back: the goal of the projection's trait is run first. While that is a Maybe, the
+-- projection is open; where it is refused, so is the projection; where it is a yes, the projection is normalised.
 pub data IsSettledNormalOf (s : Evaluator) (env : ParamEnv) (a : AliasTy) (count : ℕ) (last : Evaluator) : Normal → Type 0 where
   is_open : (x : Response) (way : Option Via) → IsRun (computing s) (trait_key s env a) count (table_of s) (table_of last)
       → verdict_in (table_of last) (trait_key s env a) ≡ Some (verdict.Maybe x way) → IsSettledNormalOf s env a count last Open
-  is_settled : (t : Evaluator) {n : Normal} → StaysBesideTable s t → IsRun (computing s) (trait_key s env a) count (table_of s) (table_of t)
-      → is_final (verdict_in (table_of t) (trait_key s env a)) ≡ true → IsNormalOf t env a count last n → IsSettledNormalOf s env a count last n
+  is_refused : IsRun (computing s) (trait_key s env a) count (table_of s) (table_of last) → verdict_in (table_of last) (trait_key s env a) ≡ Some verdict.Refused
+      → IsSettledNormalOf s env a count last Refused
+  is_settled : (t : Evaluator) {n : Normal} (x : Response) (way : Option Via) → StaysBesideTable s t → IsRun (computing s) (trait_key s env a) count (table_of s) (table_of t)
+      → verdict_in (table_of t) (trait_key s env a) ≡ Some (verdict.Yes x way) → IsNormalOf t env a count last n → IsSettledNormalOf s env a count last n
 
 -- Which of the two is asked for.
 abbrev pub IsNormalBy : Bool → Evaluator → ParamEnv → AliasTy → ℕ → Evaluator → Normal → Type 0

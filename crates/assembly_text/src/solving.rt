@@ -362,7 +362,7 @@ fn normal_after(
     }
 }
 
-/// The same where only an answer counts that no further round takes back: the goal of the projection's trait is run first, and is final.
+/// The same where only an answer counts that no further round takes back: the goal of the projection's trait is run first, and has to be final.
 fn settled_normal(
     alloc: Global,
     rounds: &mut Rounds,
@@ -380,7 +380,8 @@ fn settled_normal(
     let predicate = trait_predicate(rounds.cx(), alias);
     match rounds.run(alloc, env, predicate, count)? {
         Verdict::Maybe(_, _) => Ok(Normal::Open),
-        Verdict::Yes(_, _) | Verdict::Refused => normal_after(alloc, rounds, env, alias, count),
+        Verdict::Refused => Ok(Normal::Refused),
+        Verdict::Yes(_, _) => normal_after(alloc, rounds, env, alias, count),
     }
 }
 

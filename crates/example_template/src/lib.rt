@@ -7,10 +7,10 @@ ghost use Rattle.ir_trees.specs.Syntax.Words.{IsArgs};
 ghost use Rattle.candidate_eval.specs.Knowability.Calls.{NoUnnamedHeaderHere};
 
 use candidate_eval::coherence::{NormalizeErr, OrphanStop, trait_ref_is_knowable};
-use ir_context::decl::Cx;
-use ir_trees::ir::heads::Flag;
-use ir_trees::ir::kinds::{TraitRef, Ty};
-use ir_trees::ir::trees::Trees;
+use candidate_ir::decl::Cx;
+use candidate_ir::ir::heads::Flag;
+use candidate_ir::ir::kinds::{TraitRef, Ty};
+use candidate_ir::ir::trees::Trees;
 use std::alloc::Global;
 use std::convert::Infallible;
 

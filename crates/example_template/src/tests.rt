@@ -1,11 +1,9 @@
 //! What the client answers.
 
 use crate::all_known;
-use ir_builder::decl::DeclsBuilder;
-use ir_context::decl::Cx;
-use ir_context::decl::make::Build;
-use ir_trees::decl::TraitFlags;
-use ir_trees::ir::kinds::{GenericArg, TraitRef, TyKind, UintTy};
+use candidate_ir::decl::make::Build;
+use candidate_ir::decl::{Cx, DeclsBuilder, TraitFlags};
+use candidate_ir::ir::kinds::{GenericArg, TraitRef, TyKind, UintTy};
 
 #[test]
 fn upstream_may_add_an_impl(rt: HostRuntime) {

@@ -3,9 +3,9 @@
 ghost use Rattle.std.specs.Prelude.{◌≡◌, ◌<◌, None, IfOk, IfSome};
 ghost use Rattle.examples.specs.Apart.{AreNotKeptApart, KeepsApart};
 
+use candidate_ir::decl::contents::ImplId;
+use candidate_ir::ir::stop::Stop;
 use candidate_rounds::rounds::Rounds;
-use ir_trees::decl::contents::ImplId;
-use ir_trees::ir::stop::Stop;
 use overlaps::overlap::{Overlap, WhereClause, impls_overlap};
 use std::alloc::Global;
 

@@ -8,11 +8,11 @@ ghost use Rattle.ir_trees.specs.Syntax.Words.{IsArgs};
 use crate::asserts::{equals, holds};
 use crate::writing::{Declared, adt, declare, may_write, reference, vec_from_local};
 use candidate_eval::coherence::{NormalizeErr, OrphanStop, trait_ref_is_knowable};
-use ir_context::decl::Cx;
-use ir_trees::ir::heads::Flag;
-use ir_trees::ir::kinds::{GenericArg, TraitRef, Ty};
-use ir_trees::ir::stop::Stop;
-use ir_trees::ir::trees::Trees;
+use candidate_ir::decl::Cx;
+use candidate_ir::ir::heads::Flag;
+use candidate_ir::ir::kinds::{GenericArg, TraitRef, Ty};
+use candidate_ir::ir::stop::Stop;
+use candidate_ir::ir::trees::Trees;
 use std::alloc::Global;
 use std::convert::Infallible;
 

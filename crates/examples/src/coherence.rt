@@ -10,14 +10,14 @@ use crate::declared::declare;
 use crate::holds::holds;
 use crate::refused::is_refused_by_all;
 use candidate_eval::eval::mode::TypingMode;
-use candidate_rounds::rounds::Rounds;
-use ir_context::decl::make::Build;
-use ir_trees::decl::contents::ImplId;
-use ir_trees::ir::kinds::{
+use candidate_ir::decl::contents::ImplId;
+use candidate_ir::decl::make::Build;
+use candidate_ir::ir::kinds::{
     GenericArg, Mutability, PredicatePolarity, Region, RegionKind, TraitId, TraitPredicate,
     TraitRef, Ty, TyKind, UintTy,
 };
-use ir_trees::ir::stop::Stop;
+use candidate_ir::ir::stop::Stop;
+use candidate_rounds::rounds::Rounds;
 use overlaps::overlap::WhereClause;
 use std::alloc::Global;
 use std::process::Abort;

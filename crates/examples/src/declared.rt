@@ -3,13 +3,11 @@
 ghost use Rattle.std.specs.Prelude.{IfOk};
 ghost use Rattle.ir_trees.specs.Syntax.Words.{IsArgs, KindFits};
 
-use ir_builder::decl::DeclsBuilder;
-use ir_context::decl::Cx;
-use ir_context::decl::make::{Build, Make};
-use ir_trees::decl::contents::ImplId;
-use ir_trees::decl::definition::CrateId;
-use ir_trees::decl::{DeclFault, ImplPolarity, TraitFlags};
-use ir_trees::ir::kinds::{
+use candidate_ir::decl::contents::ImplId;
+use candidate_ir::decl::definition::CrateId;
+use candidate_ir::decl::make::{Build, Make};
+use candidate_ir::decl::{Cx, DeclFault, DeclsBuilder, ImplPolarity, TraitFlags};
+use candidate_ir::ir::kinds::{
     Binder, Clause, ClauseKind, GenericArg, PredicatePolarity, TraitId, TraitPredicate, TraitRef,
     TyKind, UintTy, VarKind,
 };

@@ -4,10 +4,10 @@ ghost use Rattle.std.specs.Prelude.{◌≡◌, ◌<◌, true, Ok};
 ghost use Rattle.ir_trees.specs.Syntax.Words.{IsArgs, IsParamEnv};
 ghost use Rattle.examples.specs.Holds.{HasDerivation};
 
+use candidate_ir::ir::kinds::{ParamEnv, TraitPredicate};
+use candidate_ir::ir::stop::Stop;
 use candidate_rounds::rounds::Rounds;
 use candidate_rounds::rounds::goals::Verdict;
-use ir_trees::ir::kinds::{ParamEnv, TraitPredicate};
-use ir_trees::ir::stop::Stop;
 use std::alloc::Global;
 
 /// Whether the goal of a predicate holds in so many rounds.

@@ -8,10 +8,10 @@ use crate::asserts::holds;
 use crate::normalising::{checked_as, checked_by_reference};
 use crate::writing::{Declared, adt, declare, reference};
 use candidate_eval::coherence::{InCrate, OrphanCheckMode, OrphanStop};
-use ir_context::decl::make::Build;
-use ir_trees::ir::kinds::{GenericArg, TraitRef, Ty, TyKind, UintTy};
-use ir_trees::ir::stop::Stop;
-use ir_trees::ir::trees::Trees;
+use candidate_ir::decl::make::Build;
+use candidate_ir::ir::kinds::{GenericArg, TraitRef, Ty, TyKind, UintTy};
+use candidate_ir::ir::stop::Stop;
+use candidate_ir::ir::trees::Trees;
 use std::process::Abort;
 
 const PROPER: InCrate = InCrate::Local {

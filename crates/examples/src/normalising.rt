@@ -12,11 +12,11 @@ ghost use Rattle.examples.specs.Looks.{is_byte, reference_to, referenced, refuse
 use candidate_eval::coherence::{
     InCrate, NormalizeErr, OrphanCheckErr, OrphanStop, orphan_check_trait_ref,
 };
-use ir_context::decl::Cx;
-use ir_context::decl::make::Build;
-use ir_trees::ir::kinds::{Mutability, RegionKind, TraitRef, Ty, TyKind, UintTy};
-use ir_trees::ir::stop::Stop;
-use ir_trees::ir::trees::Trees;
+use candidate_ir::decl::Cx;
+use candidate_ir::decl::make::Build;
+use candidate_ir::ir::kinds::{Mutability, RegionKind, TraitRef, Ty, TyKind, UintTy};
+use candidate_ir::ir::stop::Stop;
+use candidate_ir::ir::trees::Trees;
 use std::alloc::Global;
 use std::convert::Infallible;
 

@@ -15,10 +15,10 @@ ghost use Rattle.overlaps.specs.Refused.{RefusesPredicate};
 use candidate_assembly::trait_goals::compute::compute_trait_goal;
 use candidate_eval::eval::context::EvalCtxt;
 use candidate_eval::eval::refusal::NoSolutionOrStop;
+use candidate_ir::decl::make::Build;
+use candidate_ir::ir::kinds::{ParamEnv, TraitPredicate};
+use candidate_ir::ir::stop::Stop;
 use candidate_rounds::rounds::Rounds;
-use ir_context::decl::make::Build;
-use ir_trees::ir::kinds::{ParamEnv, TraitPredicate};
-use ir_trees::ir::stop::Stop;
 use overlaps::clauses::may_decide;
 use std::alloc::Global;
 

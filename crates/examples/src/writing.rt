@@ -13,13 +13,11 @@ ghost use Rattle.candidate_eval.specs.Knowability.Calls.{NoForeignHeaderHere};
 use candidate_eval::coherence::{
     InCrate, NormalizeErr, OrphanCheckMode, OrphanStop, orphan_check_trait_ref, trait_ref_is_plain,
 };
-use ir_builder::decl::DeclsBuilder;
-use ir_context::decl::Cx;
-use ir_context::decl::make::Build;
-use ir_trees::decl::{AdtFlags, AdtShape, DeclFault, TraitFlags};
-use ir_trees::ir::kinds::{AdtId, GenericArg, TraitId, TraitRef, Ty, TyKind, VarKind};
-use ir_trees::ir::stop::Stop;
-use ir_trees::ir::trees::Trees;
+use candidate_ir::decl::make::Build;
+use candidate_ir::decl::{AdtFlags, AdtShape, Cx, DeclFault, DeclsBuilder, TraitFlags};
+use candidate_ir::ir::kinds::{AdtId, GenericArg, TraitId, TraitRef, Ty, TyKind, VarKind};
+use candidate_ir::ir::stop::Stop;
+use candidate_ir::ir::trees::Trees;
 use std::alloc::Global;
 use std::convert::Infallible;
 

@@ -140,9 +140,9 @@ trait-key-later r s old e a p stays grows by h =
 
 pub came-of : (old by new : Evaluator) (e : ParamEnv) (a : AliasTy) (n : ℕ) (r : Result (Option CanonicalResponse) Stop) → StaysBesideTable old by
     → HasYes (table_of by) (key_at (state by) (goal_of_trait by.context e a)) → IsNormalized new.context.trees by e a n (table_of new) r → IfOk r (λ o. IfSome o (CameOf old new e a))
-came-of old by new e a n (Ok (Some x)) stays yes h = record { by = by; later = later-table stays; stands = stays.state_same; rounds = n; trait_holds = yes; comes = h }
-came-of old by new e a n (Ok None) stays yes h = tt
-came-of old by new e a n (Err s) stays yes h = tt
+came-of old by new e a n (Ok (Some x)) stays holds h = record { by = by; later = later-table stays; stands = stays.state_same; rounds = n; trait_holds = holds; comes = h }
+came-of old by new e a n (Ok None) stays holds h = tt
+came-of old by new e a n (Err s) stays holds h = tt
 
 pub normalizing-stop : (old by new : Evaluator) (e : ParamEnv) (a : AliasTy) (n : ℕ) (r : Result (Option CanonicalResponse) Stop) → IsLater old by
     → IsNormalized new.context.trees by e a n (table_of new) r → IfErr r (IsOverlapStop old new)

@@ -13,14 +13,18 @@ ghost use Rattle.candidate_eval.specs.Dynamic.ObjectRequirements.{arguments_of, 
 ghost use Rattle.candidate_eval.specs.Interface.Evaluators.{pendings_of};
 ghost use Rattle.candidate_eval.specs.Interface.Shown.{Keeps};
 ghost use Rattle.candidate_eval.specs.Outcomes.ResponseTrees.{IsResponse};
+ghost use Rattle.candidate_assembly.specs.Goals.KindShown.{IsGoal, trait_kind};
+ghost use Rattle.candidate_assembly.specs.Goals.TraitGoals.{trait_goal};
 ghost use Rattle.candidate_rounds.specs.Evaluators.Known.{Each, listing, state, table_of};
 ghost use Rattle.candidate_rounds.specs.Table.Normalizing.{IsProjection, rounds_shown};
 ghost use Rattle.candidate_rounds.specs.Table.Running.{StaysBesideTable};
 ghost use Rattle.rounds_judge.specs.Equations.Opening.{are_open};
+ghost use Rattle.rounds_judge.specs.Table.GoalTable.{may_be_asked};
+ghost use Rattle.rounds_judge.specs.Table.Keys.{key_at};
 ghost use Rattle.overlaps.specs.Apart.{OfDeclared, aside};
 ghost use Rattle.overlaps.specs.Refused.{AreOpen, IsOpen, RefusesPredicate, StaysBesideKnown};
 ghost use Rattle.overlaps.specs.Stopping.{IsOverlapStop};
-ghost use Rattle.overlaps.specs.Together.{AreLeftOfAll, CameOf, CannotBothHold, CannotHold, ClausesKeepApart, ImplsCannotHold, IsGivenAs, IsObligation, IsProjectedAs, IsProjectionType, IsTried, SaysOfProjection, StandsIn, goals_of_opened, pendings_at};
+ghost use Rattle.overlaps.specs.Together.{AreLeftOfAll, CameOf, CannotBothHold, CannotHold, ClausesKeepApart, HasYes, ImplsCannotHold, IsGivenAs, IsObligation, IsProjectedAs, IsProjectionType, IsTried, SaysOfProjection, StandsIn, goals_of_opened, pendings_at};
 
 use crate::auto::may_rest_on_part;
 use crate::clauses::is_predicate_refused;

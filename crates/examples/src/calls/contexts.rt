@@ -24,20 +24,18 @@ use candidate_eval::structural::callable::{
 use candidate_eval::structural::destruct::const_conditions_for_destruct;
 use candidate_eval::structural::tables::{has_cell, instantiate_constituent_tys_for_auto_trait};
 use candidate_eval::structural::{Column, Constituents};
-use ir_builder::decl::DeclsBuilder;
-use ir_context::decl::Cx;
-use ir_context::decl::make::Build;
-use ir_folds::decl::elaborate::{implied, supertrait_def_ids, supertraits};
-use ir_folds::decl::fold::fold;
-use ir_folds::decl::open::open_clause;
-use ir_folds::decl::parameters::has_arguments;
-use ir_trees::decl::DeclFault;
-use ir_trees::decl::contents::ImplId;
-use ir_trees::ir::kinds::{
+use candidate_ir::decl::contents::ImplId;
+use candidate_ir::decl::elaborate::{implied, supertrait_def_ids, supertraits};
+use candidate_ir::decl::fold::fold;
+use candidate_ir::decl::make::Build;
+use candidate_ir::decl::open::open_clause;
+use candidate_ir::decl::parameters::has_arguments;
+use candidate_ir::decl::{Cx, DeclFault, DeclsBuilder};
+use candidate_ir::ir::kinds::{
     Args, Binder, Clause, ClosureSig, GenericArg, Sig, TraitId, TraitRef, Ty, TyKind, UintTy, Vars,
 };
-use ir_trees::ir::stop::Stop;
-use ir_trees::ir::trees::Trees;
+use candidate_ir::ir::stop::Stop;
+use candidate_ir::ir::trees::Trees;
 use std::alloc::Global;
 
 /// Adds a clause to those that the impl has for its trait's super clauses about regions.

@@ -14,12 +14,12 @@ use candidate_eval::eval::refusal::NoSolutionOrStop;
 use candidate_eval::eval::resolving::resolve_env_if_possible;
 use candidate_eval::eval::response::{Candidate, CanonicalResponse};
 use candidate_eval::objects::object::{bound_matches, matching_bounds};
-use ir_context::decl::make::Build;
-use ir_trees::ir::kinds::{
+use candidate_ir::decl::make::Build;
+use candidate_ir::ir::kinds::{
     AliasTerm, Args, Binder, Clause, GenericArg, Goal, GoalSource, ParamEnv, Ty, VarKind,
 };
-use ir_trees::ir::stop::Stop;
-use ir_trees::ir::trees::Trees;
+use candidate_ir::ir::stop::Stop;
+use candidate_ir::ir::trees::Trees;
 use std::alloc::Global;
 
 /// The response that too little is known.

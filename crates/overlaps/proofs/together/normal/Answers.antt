@@ -1,18 +1,22 @@
-use Rattle.std.proofs.Common.{◌≡◌, ap, subst, sym, ◌∙◌}
+use Rattle.std.proofs.Common.{◌≡◌, true, ap, subst, sym, ◌∙◌}
 use Rattle.ir_trees.specs.declared.ir.kinds.TraitPredicate.{TraitPredicate}
 use Rattle.ir_trees.specs.declared.ir.kinds.TyKind.TheVariants as K
 use Rattle.ir_trees.specs.Declarations.Context.{Context, world}
 use Rattle.ir_trees.specs.Declarations.References.{Takes}
 use Rattle.ir_trees.specs.Syntax.Words.{IsArgs, kind_tree}
-use Rattle.ir_trees.proofs.Growth.Kept.{args-kept, grows-trans}
+use Rattle.ir_trees.proofs.Growth.Kept.{args-kept}
 use Rattle.candidate_eval.proofs.Dynamic.Objects.{env-kept}
 use Rattle.candidate_assembly.specs.Goals.TraitGoals.{trait_goal}
-use Rattle.candidate_rounds.specs.Evaluators.Known.{state}
+use Rattle.candidate_assembly.proofs.Calls.Keeping.{trait-goal-kept}
+use Rattle.candidate_rounds.specs.Evaluators.Known.{table_of}
 use Rattle.candidate_rounds.specs.Table.Normalizing.{trait_predicate}
 use Rattle.candidate_rounds.proofs.Table.Running.{stays-refl, stays-trans}
-use Rattle.overlaps.proofs.JointNormals.{alias-args, asked-later, came-of, normalizing-stop, projection-later, still-projection}
-use Rattle.overlaps.proofs.Stopping.{later-table, passed-on, step-stop}
+use Rattle.overlaps.proofs.JointNormals.{alias-args, came-of, normalizing-stop, projection-later, still-projection, trait-key-later}
+use Rattle.overlaps.proofs.Stopping.{later-table, passed-on, step-stop, stop-later}
+use Rattle.rounds_judge.specs.Table.GoalTable.{may_be_asked}
+use Rattle.rounds_judge.specs.Table.Keys.{Key}
 use Rattle.overlaps.specs.Stopping.{IsOverlapStop, step_key}
+use Rattle.overlaps.specs.Together.{HasYes}
 use Rattle.overlaps.proofs.together.normal.Goals as goal
 
 pub returns-then-not-args_fit-clause-stays : goal.returns-then-not-args_fit-clause-stays
@@ -40,46 +44,76 @@ returns-in_err-may_be_run-clause-cause c =
 pub returns-then-not-branch-clause-stays : goal.returns-then-not-branch-clause-stays
 returns-then-not-branch-clause-stays c = stays-trans c.verdict_here.ensures.stays c.may_be_run.ensures.stays
 
+pub returns-in_err-is_proved-clause-stays : goal.returns-in_err-is_proved-clause-stays
+returns-in_err-is_proved-clause-stays c = stays-trans (stays-trans c.verdict_here.ensures.stays c.may_be_run.ensures.stays) c.is_proved.ensures.stays
+
+pub returns-in_err-is_proved-clause-cause : goal.returns-in_err-is_proved-clause-cause
+returns-in_err-is_proved-clause-cause c =
+    let later = later-table (stays-trans c.verdict_here.ensures.stays c.may_be_run.ensures.stays) in
+    passed-on (IsOverlapStop c.args.rounds.now c.is_proved.new.rounds) c.from_residual-in_err-is_proved.result c.in_err-is_proved.field-0.0 c.from_residual-in_err-is_proved.ensures.1
+    (stop-later later c.in_err-is_proved.ensures.cause)
+
+pub returns-then-not-branch-2-clause-stays : goal.returns-then-not-branch-2-clause-stays
+returns-then-not-branch-2-clause-stays c = stays-trans (stays-trans c.verdict_here.ensures.stays c.may_be_run.ensures.stays) c.is_proved.ensures.stays
+
 pub normalize-requires-clause-projection : goal.normalize-requires-clause-projection
 normalize-requires-clause-projection c =
     let old = c.args.rounds.now.context in
-    let now = c.may_be_run.new.self.context in
+    let asked = c.may_be_run.new.self.context in
+    let now = c.is_proved.new.rounds.context in
     let alias = c.args.alias in
-    let is : c.trait_predicate-predicate.result ≡ trait_predicate old alias = c.trait_predicate-predicate.ensures ∙ ap (λ (y : Context). trait_predicate y alias) c.cx-2.ensures in
-    let grows = grows-trans _ _ _ c.verdict_here.ensures.stays.grows c.may_be_run.ensures.stays.grows in
+    let p = c.trait_predicate-predicate.result in
+    let is : p ≡ trait_predicate old alias = c.trait_predicate-predicate.ensures ∙ ap (λ (y : Context). trait_predicate y alias) c.cx-2.ensures in
+    let grows = (stays-trans (stays-trans c.verdict_here.ensures.stays c.may_be_run.ensures.stays) c.is_proved.ensures.stays).grows in
     let takes : Takes (world old) (kind_tree old.trees (K.Alias alias))
     = subst (λ (y : Context). Takes (world y) (kind_tree y.trees (K.Alias alias))) c.cx.ensures (c.args_fit.ensures.0 c.if-not-args_fit.false) in
-    projection-later old now c.args.env alias c.trait_predicate-predicate.result grows c.requires.alias c.requires.projection takes is c.may_be_run.ensures.goal
+    projection-later old now c.args.env alias p grows c.requires.alias c.requires.projection takes is
+    (trait-goal-kept asked now c.args.env p c.is_proved.ensures.stays.grows c.may_be_run.ensures.goal).0
 
 pub normalize-requires-clause-asked : goal.normalize-requires-clause-asked
 normalize-requires-clause-asked c =
     let old = c.args.rounds.now.context in
-    let s = c.may_be_run.new.self in
+    let r = c.may_be_run.new.self in
+    let s = c.is_proved.new.rounds in
     let alias = c.args.alias in
-    let is : c.trait_predicate-predicate.result ≡ trait_predicate old alias = c.trait_predicate-predicate.ensures ∙ ap (λ (y : Context). trait_predicate y alias) c.cx-2.ensures in
-    let grows = grows-trans _ _ _ c.verdict_here.ensures.stays.grows c.may_be_run.ensures.stays.grows in
-    asked-later old s.context (state s) c.args.env alias c.trait_predicate-predicate.result grows is (sym c.in_ok-may_be_run.ensures.is ∙ c.if-not-branch.false)
+    let p = c.trait_predicate-predicate.result in
+    let is : p ≡ trait_predicate old alias = c.trait_predicate-predicate.ensures ∙ ap (λ (y : Context). trait_predicate y alias) c.cx-2.ensures in
+    let grows = (stays-trans (stays-trans c.verdict_here.ensures.stays c.may_be_run.ensures.stays) c.is_proved.ensures.stays).grows in
+    let key = trait-key-later r s old c.args.env alias p c.is_proved.ensures.stays grows is c.may_be_run.ensures.goal in
+    subst (λ (k : Key). may_be_asked k ≡ true) key (sym c.in_ok-may_be_run.ensures.is ∙ c.if-not-branch.false)
 
 pub returns-clause-stays : goal.returns-clause-stays
-returns-clause-stays c = stays-trans (stays-trans c.verdict_here.ensures.stays c.may_be_run.ensures.stays) c.normalize.ensures.stays
+returns-clause-stays c = stays-trans (stays-trans (stays-trans c.verdict_here.ensures.stays c.may_be_run.ensures.stays) c.is_proved.ensures.stays) c.normalize.ensures.stays
 
 pub returns-clause-projection : goal.returns-clause-projection
 returns-clause-projection c =
     let old = c.args.rounds.now.context in
-    let s = c.may_be_run.new.self.context in
+    let asked = c.may_be_run.new.self.context in
+    let now = c.is_proved.new.rounds.context in
     let alias = c.args.alias in
-    let is : c.trait_predicate-predicate.result ≡ trait_predicate old alias = c.trait_predicate-predicate.ensures ∙ ap (λ (y : Context). trait_predicate y alias) c.cx-2.ensures in
-    let grows = grows-trans _ _ _ c.verdict_here.ensures.stays.grows c.may_be_run.ensures.stays.grows in
+    let p = c.trait_predicate-predicate.result in
+    let is : p ≡ trait_predicate old alias = c.trait_predicate-predicate.ensures ∙ ap (λ (y : Context). trait_predicate y alias) c.cx-2.ensures in
+    let grows = (stays-trans (stays-trans c.verdict_here.ensures.stays c.may_be_run.ensures.stays) c.is_proved.ensures.stays).grows in
     let takes : Takes (world old) (kind_tree old.trees (K.Alias alias))
     = subst (λ (y : Context). Takes (world y) (kind_tree y.trees (K.Alias alias))) c.cx.ensures (c.args_fit.ensures.0 c.if-not-args_fit.false) in
-    let projection = projection-later old s c.args.env alias c.trait_predicate-predicate.result grows c.requires.alias c.requires.projection takes is c.may_be_run.ensures.goal in
-    still-projection s c.normalize.new.self.context c.args.env c.args.alias c.normalize.result c.normalize.ensures.stays.grows projection
+    let projection = projection-later old now c.args.env alias p grows c.requires.alias c.requires.projection takes is
+    (trait-goal-kept asked now c.args.env p c.is_proved.ensures.stays.grows c.may_be_run.ensures.goal).0 in
+    still-projection now c.normalize.new.self.context c.args.env alias c.normalize.result c.normalize.ensures.stays.grows projection
 
 pub returns-clause-comes : goal.returns-clause-comes
 returns-clause-comes c =
-    came-of c.args.rounds.now c.may_be_run.new.self c.normalize.new.self c.args.env c.args.alias c.args.count c.normalize.result (stays-trans c.verdict_here.ensures.stays c.may_be_run.ensures.stays) c.normalize.ensures.normalized
+    let old = c.args.rounds.now in
+    let r = c.may_be_run.new.self in
+    let s = c.is_proved.new.rounds in
+    let alias = c.args.alias in
+    let p = c.trait_predicate-predicate.result in
+    let is : p ≡ trait_predicate old.context alias = c.trait_predicate-predicate.ensures ∙ ap (λ (y : Context). trait_predicate y alias) c.cx-2.ensures in
+    let stays = stays-trans (stays-trans c.verdict_here.ensures.stays c.may_be_run.ensures.stays) c.is_proved.ensures.stays in
+    let key = trait-key-later r s old.context c.args.env alias p c.is_proved.ensures.stays stays.grows is c.may_be_run.ensures.goal in
+    came-of old s c.normalize.new.self c.args.env alias c.args.count c.normalize.result stays
+    (subst (HasYes (table_of s)) key (c.in_ok-is_proved.ensures.yes c.if-not-branch-2.false)) c.normalize.ensures.normalized
 
 pub returns-clause-cause : goal.returns-clause-cause
 returns-clause-cause c =
-    normalizing-stop c.args.rounds.now c.may_be_run.new.self c.normalize.new.self c.args.env c.args.alias c.args.count c.normalize.result (later-table (stays-trans c.verdict_here.ensures.stays c.may_be_run.ensures.stays))
-    c.normalize.ensures.normalized
+    let stays = stays-trans (stays-trans c.verdict_here.ensures.stays c.may_be_run.ensures.stays) c.is_proved.ensures.stays in
+    normalizing-stop c.args.rounds.now c.is_proved.new.rounds c.normalize.new.self c.args.env c.args.alias c.args.count c.normalize.result (later-table stays) c.normalize.ensures.normalized
