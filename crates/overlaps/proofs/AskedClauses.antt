@@ -34,7 +34,8 @@ use Rattle.candidate_rounds.proofs.Table.Running.{stays-trans}
 use Rattle.rounds_judge.specs.Table.GoalTable.{GoalTable}
 use Rattle.rounds_judge.specs.Table.Keys.{key_at}
 use Rattle.rounds_judge.specs.Table.Rounds.{IsRun}
-use Rattle.overlaps.specs.Asked.{AllStay, BothStay, ClauseStays, FirstStay, ImplStays, StayBefore, DecidesNothing, GoalStays, HaveVariable, IsNotRefused, SoManyStay, StaysHere, WasRun, WasTried, says_nothing, asks, decides_nothing, ran_there, stands_not, stands_nowhere, was_run, was_tried, none_asked, one_asked, before_of_first, before_of_second}
+use Rattle.overlaps.specs.PartTraits.{HaveVariable}
+use Rattle.overlaps.specs.Asked.{AllStay, BothStay, ClauseStays, FirstStay, ImplStays, StayBefore, DecidesNothing, GoalStays, IsNotRefused, SoManyStay, StaysHere, WasRun, WasTried, says_nothing, asks, decides_nothing, ran_there, stands_not, stands_nowhere, was_run, was_tried, none_asked, one_asked, before_of_first, before_of_second}
 use Rattle.overlaps.specs.Refused.{AreOpen, IsOpen, clause_at, goal_alone}
 use Rattle.overlaps.specs.Stopping.{IsLater}
 use Rattle.overlaps.specs.declared.opening.Opened.{Opened}

@@ -16,9 +16,9 @@ use Rattle.ir_trees.specs.Declarations.References.{Takes}
 use Rattle.ir_trees.specs.Declarations.Worlds.{World, alias_kinds, kinds_of}
 use Rattle.ir_trees.specs.Syntax.Nodes.{node_tree}
 use Rattle.ir_trees.specs.Syntax.Trees.{Forest, Tree, is_alias, none as no_trees}
-use Rattle.ir_trees.specs.Syntax.Words.{IsArgs, IsClause, IsParamEnv, IsTy, KindFits, clause_tree, env_forest, kind_tree, ty_tree}
+use Rattle.ir_trees.specs.Syntax.Words.{IsArgs, IsClause, IsParamEnv, IsTy, KindFits, args_forest, clause_tree, env_forest, kind_tree, ty_tree}
 use Rattle.ir_trees.specs.Unification.Substitutions.{alone}
-use Rattle.ir_trees.proofs.Growth.Kept.{args-kept, grows-trans, ty-kept, world-kept}
+use Rattle.ir_trees.proofs.Growth.Kept.{args-kept, grows-refl, grows-trans, ty-kept, world-kept}
 use Rattle.ir_context.proofs.Instantiation.Declared.{alias_fits}
 use Rattle.ir_folds.proofs.Instantiation.Joining.{clause-kept}
 use Rattle.ir_trees.proofs.Syntax.Lists.{node_tree-append}
@@ -47,9 +47,10 @@ use Rattle.overlaps.proofs.Jointly.{obligations-there, one-there, typed-left}
 use Rattle.overlaps.proofs.Staying.{known-made, known-then}
 use Rattle.overlaps.proofs.Stopping.{later-known, later-table, later-then, step-stop}
 use Rattle.overlaps.specs.Apart.{aside}
+use Rattle.overlaps.specs.PartTraits.{HaveVariable, RestsOnPart}
 use Rattle.overlaps.specs.Refused.{StaysBesideKnown}
 use Rattle.overlaps.specs.Stopping.{IsLater, IsOverlapStop, step_normalizing}
-use Rattle.overlaps.specs.Together.{AreLeft, CameOf, HasYes, IsGivenAs, IsNormalAt, IsObligation, IsProjectedAs, IsProjectionType, Obligation, StandsIn, gives_at, next_type, pending_at, pendings_at, with_type}
+use Rattle.overlaps.specs.Together.{AreLeft, CameOf, HasYes, IsGivenAs, IsNormalAt, IsObligation, IsOfProjection, IsProjectedAs, IsProjectionType, Obligation, StandsIn, gives_at, next_type, pending_at, pendings_at, with_type}
 use Rattle.overlaps.specs.declared.together.ProjectionType.{ProjectionType}
 use Rattle.overlaps.specs.declared.together.ProjectionType.TheVariants as P
 
@@ -94,6 +95,7 @@ normal-at old mid env a response known stays env-fits empty fits came sure gives
       trait_holds = subst (λ (S : State). HasYes (table_of by) (key_at S (goal_of_trait by.context env a))) came.stands came.trait_holds;
       comes = came.comes;
       sure = sure;
+      of_instances = came.of_instances;
       gives = subst (λ (x : Listing × State × TraitGoal). with_normal x.0 x.1 x.2 (response_of mid.context.trees response) ≡ known) (λ i. (l i, s i, q i)) gives;
     }
 
@@ -139,10 +141,22 @@ trait-key-later r s old e a p stays grows by h =
 -- What normalising it answers, and why it stops.
 
 pub came-of : (old by new : Evaluator) (e : ParamEnv) (a : AliasTy) (n : ℕ) (r : Result (Option CanonicalResponse) Stop) → StaysBesideTable old by
-    → HasYes (table_of by) (key_at (state by) (goal_of_trait by.context e a)) → IsNormalized new.context.trees by e a n (table_of new) r → IfOk r (λ o. IfSome o (CameOf old new e a))
-came-of old by new e a n (Ok (Some x)) stays holds h = record { by = by; later = later-table stays; stands = stays.state_same; rounds = n; trait_holds = holds; comes = h }
-came-of old by new e a n (Ok None) stays holds h = tt
-came-of old by new e a n (Err s) stays holds h = tt
+    → HasYes (table_of by) (key_at (state by) (goal_of_trait by.context e a)) → IsOfProjection by.context e a → IsNormalized new.context.trees by e a n (table_of new) r
+    → IfOk r (λ o. IfSome o (CameOf old new e a))
+came-of old by new e a n (Ok (Some x)) stays holds is h = record { by = by; later = later-table stays; stands = stays.state_same; rounds = n; trait_holds = holds; comes = h; of_instances = is }
+came-of old by new e a n (Ok None) stays holds is h = tt
+came-of old by new e a n (Err s) stays holds is h = tt
+
+-- What was asked of the projection's trait.
+pub of-projection : (c d : Context) (e : ParamEnv) (a : AliasTy) (p : TraitPredicate) → Grows c d → p ≡ trait_predicate c a
+    → (HaveVariable (args_forest d.trees p.trait_ref.args) → RestsOnPart d p.trait_ref.def_id → ⊥) → IsOfProjection d e a
+of-projection c d e a p g is never = λ some.
+    let same : p ≡ trait_predicate d a = is ∙ sym (predicate-kept c d a g) in
+    record {
+      later = d;
+      grows = grows-refl d;
+      never = subst (λ (q : TraitPredicate). HaveVariable (args_forest d.trees q.trait_ref.args) → RestsOnPart d q.trait_ref.def_id → ⊥) same never some;
+    }
 
 pub normalizing-stop : (old by new : Evaluator) (e : ParamEnv) (a : AliasTy) (n : ℕ) (r : Result (Option CanonicalResponse) Stop) → IsLater old by
     → IsNormalized new.context.trees by e a n (table_of new) r → IfErr r (IsOverlapStop old new)

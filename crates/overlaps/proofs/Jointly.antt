@@ -4,6 +4,7 @@ use Rattle.std.specs.List.{Contains}
 use Rattle.std.proofs.lemmas.List.{get_or-map, map-append}
 use Rattle.std.proofs.lemmas.List.Elements.{Contains-append_cases, Contains-append_left, Contains-append_right, Contains-get_or, Contains-push_cases}
 use Rattle.ir_trees.specs.declared.ir.kinds.ProjectionPredicate.{ProjectionPredicate}
+use Rattle.ir_trees.specs.declared.ir.kinds.TraitId.{TraitId}
 use Rattle.ir_trees.specs.declared.ir.kinds.TraitPredicate.{TraitPredicate}
 use Rattle.ir_trees.specs.declared.ir.kinds.TyKind.{TyKind}
 use Rattle.ir_trees.specs.declared.ir.stop.Stop.{Stop}
@@ -11,7 +12,7 @@ use Rattle.ir_trees.specs.Declarations.Context.{Context, Grows}
 use Rattle.ir_trees.specs.Syntax.Trees.{Forest, Tree, none, skip, tree}
 use Rattle.ir_trees.specs.Syntax.Words.{args_forest, clause_tree, env_forest, kind_tree, ty_tree}
 use Rattle.ir_trees.specs.Unification.Substitutions.{alone}
-use Rattle.ir_trees.proofs.Growth.Kept.{grows-trans}
+use Rattle.ir_trees.proofs.Growth.Kept.{grows-refl, grows-trans}
 use Rattle.candidate_eval.specs.Dynamic.ObjectRequirements.{arguments_of, trait_said}
 use Rattle.candidate_eval.specs.Interface.Evaluators.{accepted, pending_of, pendings_of}
 use Rattle.candidate_eval.specs.Judges.States.{Pending, State, added, with_pending}
@@ -28,7 +29,8 @@ use Rattle.overlaps.proofs.Staying.{known-refl, known-then}
 use Rattle.overlaps.proofs.Stopping.{later-known, later-then}
 use Rattle.overlaps.specs.Apart.{aside}
 use Rattle.overlaps.specs.Goals.{WasRefused}
-use Rattle.overlaps.specs.Refused.{RefusesPredicate, StaysBesideKnown, goal_alone}
+use Rattle.overlaps.specs.PartTraits.{IsOfInstances, RestsOnPart, SpeaksOfNoPart, trait_spoken_of}
+use Rattle.overlaps.specs.Refused.{RefusesInstances, StaysBesideKnown, goal_alone}
 use Rattle.overlaps.specs.Stopping.{IsLater}
 use Rattle.overlaps.specs.Together.{AreLeft, AreLeftOfAll, CannotHold, GoalIsRefused, IsNormalAt, IsObligation, IsTried, Obligation, SaysOfProjection, StandsIn, below, beside, here, next_type, no_type, no_type_as_said, one_is_refused, one_is_settled, one_is_unsettled, one_with_values, other_type, pending_at, pendings_at, same_type, with_alone, with_its_type, with_type, with_values}
 
@@ -62,8 +64,8 @@ with-more qs s (one_is_refused p c h) = one_is_refused p (s p c) h
 with-more {S = S} {ps = ps} qs s (one_with_values p c h) =
     let v = with_values S p ∷ [] in
     one_with_values p (s p c) (with-more (v ++ qs) (among-after v ps qs s) h)
-with-more qs s (one_is_unsettled p by c l e) = one_is_unsettled p by (s p c) l e
-with-more {ps = ps} qs s (one_is_settled p by x T c l e h) = one_is_settled p by x T (s p c) l e (with-more (T.pending ++ qs) (among-after T.pending ps qs s) h)
+with-more qs s (one_is_unsettled p by c k l e) = one_is_unsettled p by (s p c) k l e
+with-more {ps = ps} qs s (one_is_settled p by x T c k l e h) = one_is_settled p by x T (s p c) k l e (with-more (T.pending ++ qs) (among-after T.pending ps qs s) h)
 with-more qs s (no_type p t c i n) = no_type p t (s p c) i n
 with-more {S = S} {ps = ps} qs s (with_its_type p t T c i n h) =
     let v = with_type t (next_type S) p ∷ [] in
@@ -90,6 +92,7 @@ normal-earlier l n = record {
   trait_holds = n.trait_holds;
   comes = n.comes;
   sure = n.sure;
+  of_instances = n.of_instances;
   gives = n.gives;
 }
 
@@ -103,11 +106,16 @@ refused-earlier {r} {s} l h = record {
   refused = h.refused;
 }
 
+speaks-earlier : {r s : Evaluator} (t : Tree) → IsLater r s → SpeaksOfNoPart s.context t → SpeaksOfNoPart r.context t
+speaks-earlier {r} {s} t l h = λ of is.
+    let no = h of (ap (λ (c : Context). trait_spoken_of c t.head) l.grows.same ∙ is) in
+    record { later = no.later; grows = grows-trans r.context s.context no.later l.grows no.grows; never = no.never }
+
 pub cannot-earlier : {r s : Evaluator} → IsLater r s → {S : State} {ps : List Pending} → CannotHold s S ps → CannotHold r S ps
 cannot-earlier l (one_is_refused p c h) = one_is_refused p c (refused-earlier l h)
 cannot-earlier l (one_with_values p c h) = one_with_values p c (cannot-earlier l h)
-cannot-earlier l (one_is_unsettled p by c k e) = one_is_unsettled p by c (later-then l k) e
-cannot-earlier l (one_is_settled p by x T c k e h) = one_is_settled p by x T c (later-then l k) e (cannot-earlier l h)
+cannot-earlier l (one_is_unsettled p by c i k e) = one_is_unsettled p by c (speaks-earlier p.goal.clause l i) (later-then l k) e
+cannot-earlier l (one_is_settled p by x T c i k e h) = one_is_settled p by x T c (speaks-earlier p.goal.clause l i) (later-then l k) e (cannot-earlier l h)
 cannot-earlier l (no_type p t c i n) = no_type p t c i (normal-earlier l n)
 cannot-earlier l (with_its_type p t T c i n h) = with_its_type p t T c i (normal-earlier l n) (cannot-earlier l h)
 cannot-earlier l (no_type_as_said p t u c i n) = no_type_as_said p t u c i (normal-earlier l n)
@@ -208,7 +216,7 @@ tried-with-values old mid new g h before after false l same b is t = record {
 -- A goal of a trait is refused.
 pub refused-tried : (old mid new : Evaluator) (g : Obligation) (p : TraitPredicate) → IsLater old mid → state mid ≡ state old → IsLater mid new → env_forest old.context.trees g.1.param_env ≡ none
     → trait_said (clause_tree old.context.trees g.1.predicate).head ≡ Some (p.trait_ref.def_id, p.polarity)
-    → arguments_of (clause_tree old.context.trees g.1.predicate) ≡ args_forest mid.context.trees p.trait_ref.args → RefusesPredicate mid new p → (ps : List Pending) → Contains ps (pending_at old g)
+    → arguments_of (clause_tree old.context.trees g.1.predicate) ≡ args_forest mid.context.trees p.trait_ref.args → RefusesInstances mid new p → (ps : List Pending) → Contains ps (pending_at old g)
     → CannotHold old (state old) ps
 refused-tried old mid new g p l same k empty said fits h = λ ps there.
     one_is_refused (pending_at old g) there
@@ -216,14 +224,15 @@ refused-tried old mid new g p l same k empty said fits h = λ ps there.
       no_env = empty;
       by = new;
       later = later-then l k;
-      context = h.context;
-      grows = grows-trans old.context mid.context h.context l.grows h.earlier;
+      context = h.refuses.context;
+      grows = grows-trans old.context mid.context h.refuses.context l.grows h.refuses.earlier;
       refused = record {
         goal = record { env = none; reference = record { trait = p.trait_ref.def_id.0; arguments = args_forest mid.context.trees p.trait_ref.args }; polarity = p.polarity };
         says = said;
         arguments = sym fits;
         no_environment = refl;
-        refused = subst (λ (S : State). WasRefused (judge_of (fixed new)) h.context S (goal_alone mid.context.trees p)) same h.refused;
+        refused = subst (λ (S : State). WasRefused (judge_of (fixed new)) h.refuses.context S (goal_alone mid.context.trees p)) same h.refuses.refused;
+        of_instances = h.of_instances;
       };
     })
 
@@ -232,18 +241,19 @@ refused-tried old mid new g p l same k empty said fits h = λ ps there.
 alone-added : (S : State) (p : Pending) → S.pending ≡ [] → added S p ≡ with_alone S p
 alone-added S p e = ap (λ (ps : List Pending). with_pending S (ps ++ p ∷ [])) e
 
-pub unsettled : (old at : Evaluator) (g : Obligation) → IsLater old at → (state old).pending ≡ [] → state at ≡ added (state old) (pending_at old g) → (judge_of (fixed at)).settled (state at) ≡ None
+pub unsettled : (old at : Evaluator) (g : Obligation) → SpeaksOfNoPart old.context (clause_tree old.context.trees g.1.predicate) → IsLater old at → (state old).pending ≡ [] → state at ≡ added (state old) (pending_at old g) → (judge_of (fixed at)).settled (state at) ≡ None
     → (ps : List Pending) → Contains ps (pending_at old g) → CannotHold old (state old) ps
-unsettled old at g l quiet is refused = λ ps there.
-    one_is_unsettled (pending_at old g) at there l (subst (λ (S : State). (judge_of (fixed at)).settled S ≡ None) (is ∙ alone-added (state old) (pending_at old g) quiet) refused)
+unsettled old at g speaks l quiet is refused = λ ps there.
+    one_is_unsettled (pending_at old g) at there speaks l (subst (λ (S : State). (judge_of (fixed at)).settled S ≡ None) (is ∙ alone-added (state old) (pending_at old g) quiet) refused)
 
-pub settled-left : (old at done new : Evaluator) (g : Obligation) (before after : List Obligation) (x : Certainty) → IsLater old at → IsLater old new → (state old).pending ≡ []
+pub settled-left : (old at done new : Evaluator) (g : Obligation) (before after : List Obligation) (x : Certainty) → SpeaksOfNoPart old.context (clause_tree old.context.trees g.1.predicate)
+    → IsLater old at → IsLater old new → (state old).pending ≡ []
     → state at ≡ added (state old) (pending_at old g) → (judge_of (fixed at)).settled (state at) ≡ Some (x, state done) → state new ≡ aside (state done) → Each (IsObligation old.context.trees) before
     → Each (IsObligation new.context.trees) after → pendings_at new after ≡ pendings_at new before ++ (state done).pending → AreLeft old new g before after
-settled-left old at done new g before after x l m quiet is so aside-then b fit left =
+settled-left old at done new g before after x speaks l m quiet is so aside-then b fit left =
     left-by old new g before after (state done).pending m b fit (ap (λ (S : State). S.pending) aside-then) left
     (λ ps there h.
-    one_is_settled (pending_at old g) at x (state done) there l
+    one_is_settled (pending_at old g) at x (state done) there speaks l
     (subst (λ (S : State). (judge_of (fixed at)).settled S ≡ Some (x, state done)) (is ∙ alone-added (state old) (pending_at old g) quiet) so)
     (subst (λ (S : State). CannotHold old S ((state done).pending ++ ps)) aside-then h))
 
@@ -354,15 +364,22 @@ stands-below h (below {u = v} k) = below {u = v} (stands-below h k)
 stands-below h (beside {u = v} k) = beside {u = v} (stands-below h k)
 
 -- A probe that was open meanwhile changes nothing of a refusal.
-pub predicate-probed : (old began ran new : Evaluator) (p : TraitPredicate) → began.context ≡ old.context → state began ≡ state old → fixed new ≡ fixed ran → RefusesPredicate began ran p
-    → RefusesPredicate old new p
+pub predicate-probed : (old began ran new : Evaluator) (p : TraitPredicate) → began.context ≡ old.context → state began ≡ state old → fixed new ≡ fixed ran → RefusesInstances began ran p
+    → RefusesInstances old new p
 predicate-probed old began ran new p cx same f h =
     let z = sym f in
     record {
-      context = h.context;
-      earlier = subst (λ (c : Context). Grows c h.context) cx h.earlier;
-      refused = subst (λ (q : Fixed × State × Context). WasRefused (judge_of q.0) h.context q.1 (goal_alone q.2.trees p)) (λ i. (z i, same i, cx i)) h.refused;
+      refuses = record {
+        context = h.refuses.context;
+        earlier = subst (λ (c : Context). Grows c h.refuses.context) cx h.refuses.earlier;
+        refused = subst (λ (q : Fixed × State × Context). WasRefused (judge_of q.0) h.refuses.context q.1 (goal_alone q.2.trees p)) (λ i. (z i, same i, cx i)) h.refuses.refused;
+      };
+      of_instances = subst (λ (c : Context). IsOfInstances h.refuses.context p.trait_ref.def_id (args_forest c.trees p.trait_ref.args)) cx h.of_instances;
     }
+
+-- What was asked of the clause where the call began.
+pub speaks-of-none : (c : Context) (x : Tree) → ((t : TraitId) → trait_spoken_of c x.head ≡ Some t → RestsOnPart c t → ⊥) → SpeaksOfNoPart c x
+speaks-of-none c x h = λ t is. record { later = c; grows = grows-refl c; never = h t is }
 
 -- What a clause says of a projection, as it is read.
 pub said-as-read : (c : Context) (x : Tree) (p : ProjectionPredicate) (k : TyKind) → projection_of p ≡ k → IsProjection c x p → SaysOfProjection x (kind_tree c.trees k) (ty_tree c.trees p.term)

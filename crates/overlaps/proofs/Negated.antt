@@ -1,10 +1,11 @@
 -- Clauses that are known not to hold, by earlier evaluators and by the declared impls.
-use Rattle.std.proofs.Common.{◌≡◌, ◌<◌, ◌∷◌, [], ℕ, Bool, true, false, List, Option, Some, None, length, map, slice_get, slice_index_or, refl, sym, ap, subst, ◌∙◌}
+use Rattle.std.proofs.Common.{◌≡◌, ◌<◌, ◌∷◌, [], ℕ, zero, suc, Bool, true, false, List, Option, Some, None, length, map, slice_get, slice_index_or, refl, sym, ap, arith, inl, inr, subst, ◌∙◌}
 use Rattle.std.specs.Prelude.{IfSome}
 use Rattle.ir_trees.specs.declared.decl.contents.ImplId.{ImplId}
 use Rattle.ir_trees.specs.declared.ir.kinds.Args.{Args}
 use Rattle.ir_trees.specs.declared.ir.kinds.Clause.{Clause}
 use Rattle.ir_trees.specs.declared.ir.kinds.GenericArg.{GenericArg}
+use Rattle.ir_trees.specs.declared.ir.kinds.GenericArg.TheVariants as G
 use Rattle.ir_trees.specs.declared.ir.kinds.ParamEnv.{ParamEnv}
 use Rattle.ir_trees.specs.declared.ir.kinds.TraitPredicate.{TraitPredicate}
 use Rattle.ir_trees.specs.declared.ir.kinds.TraitRef.{TraitRef}
@@ -15,31 +16,34 @@ use Rattle.ir_trees.specs.Hierarchy.Elaboration.{IsElaboration}
 use Rattle.ir_trees.specs.Instantiation.Folding.{substituted, substituted_tree}
 use Rattle.ir_trees.specs.Instantiation.Folds.{IsArg, arg_tree}
 use Rattle.ir_trees.specs.Unification.Substitutions.{alone}
-use Rattle.ir_trees.specs.Syntax.Trees.{Forest, none, Tree}
-use Rattle.ir_trees.specs.Syntax.Words.{ClauseListFits, IsArgs, IsClause, IsParamEnv, args_forest, clause_tree, env_forest}
+use Rattle.ir_trees.specs.Syntax.Nodes.{kind_at}
+use Rattle.ir_trees.specs.Syntax.Trees.{ConstantKind, Forest, none, RegionKind, Tree, TypeKind}
+use Rattle.ir_trees.specs.Syntax.Words.{ClauseListFits, IsArgs, IsClause, IsParamEnv, ListFits, args_forest, clause_tree, env_forest, list_forest}
 use Rattle.ir_trees.specs.Validity.WellFormed.{ImplIsGiven}
 use Rattle.ir_trees.proofs.Growth.Kept.{args-kept, grows-trans}
+use Rattle.ir_trees.proofs.Syntax.Rows.{row-single}
 use Rattle.ir_folds.proofs.Hierarchy.Implying.{arg-kept}
 use Rattle.ir_folds.proofs.Instantiation.Joining.{clause-kept}
 use Rattle.candidate_eval.specs.Dynamic.ObjectRequirements.{arguments_of, trait_said}
-use Rattle.candidate_eval.specs.Interface.Evaluators.{accepted, arguments_accepted, with_rigid}
+use Rattle.candidate_eval.specs.Dynamic.Required.{each_of}
+use Rattle.candidate_eval.specs.Interface.Evaluators.{HasTrees, accepted, arguments_accepted, rigid, with_rigid}
 use Rattle.candidate_eval.specs.Judges.States.{Env, Judge, State, fresh_variables, resolved_tree}
 use Rattle.candidate_eval.proofs.Dynamic.Objects.{env-kept}
 use Rattle.candidate_eval.proofs.Outcomes.Pairs.{clause_there}
-use Rattle.candidate_assembly.specs.Answers.KnownImpls.{header_at, header_of, kinds_of_impl}
+use Rattle.candidate_assembly.specs.Answers.KnownImpls.{header_at, kinds_of_impl}
 use Rattle.candidate_assembly.specs.Calls.Impls.{impl_kinds}
 use Rattle.candidate_assembly.specs.Goals.TraitGoals.{trait_goal}
 use Rattle.candidate_assembly.proofs.Rules.ImplSteps.{impl-same}
 use Rattle.candidate_rounds.specs.Evaluators.Interface.{Fixed, fixed, judge_of}
 use Rattle.candidate_rounds.specs.Evaluators.Known.{Evaluator, state, table_of}
 use Rattle.candidate_rounds.specs.Table.Goals.{Via}
-use Rattle.candidate_rounds.specs.Table.Running.{StaysBesideTable, with_table}
+use Rattle.candidate_rounds.specs.Table.Running.{StaysBesideTable}
 use Rattle.candidate_rounds.proofs.Stops.ResponseStops.{contains-mapped}
 use Rattle.rounds_judge.specs.Table.GoalTable.{GoalTable, verdict_in}
 use Rattle.rounds_judge.specs.Table.Keys.{key_at}
 use Rattle.overlaps.specs.Answered.{IsPlainYes}
 use Rattle.overlaps.specs.Apart.{OfDeclared, aside, entered, opened}
-use Rattle.overlaps.specs.Negated.{AreImplied, ClauseIsNegated, Equates, ImpliesDenied, IsDenied, IsEnvironmentAt, IsNegatedAt, IsNegatedBy, IsNegatedFrom, IsNegatedOfPair, IsNegatedUnder, OneIsDenied, OneIsNegated, clauses_at, no_more, one_more, turned, with_names}
+use Rattle.overlaps.specs.Negated.{AreImplied, ArePlugged, BothArePlugged, ClauseIsNegated, ImpliesDenied, IsDenied, IsEnvironmentAt, IsNegatedAt, IsNegatedBy, IsNegatedFrom, IsNegatedOfPair, IsNegatedUnder, MayBePlugged, OneIsDenied, OneIsNegated, both_forests, clauses_at, names_of, no_more, one_more, turned, variables_of, with_names}
 use Rattle.overlaps.specs.Opening.{AreOpened, IsOpenedOf, IsOpenedWith}
 use Rattle.overlaps.specs.Refused.{AreOpen, IsOpen, MakesHeadersEqual, clause_at, headers_equated, locals_of}
 use Rattle.overlaps.specs.Specialized.{IsEnvironmentOf}
@@ -61,20 +65,22 @@ some-weaker f (Some x) h = f x h
 pub some-holds : {A : Type 0} (P : A → Type 0) (o : Option A) (x : A) → o ≡ Some x → IfSome o P → P x
 some-holds P o x e h = subst (λ (q : Option _). IfSome q P) e h
 
--- Equations
+-- Variables that become placeholders
 
-pub equates-then : {J : Judge} {S T U : State} → Equates J S T → Equates J T U → Equates J S U
-equates-then g no_more = g
-equates-then g (one_more f h more e) = one_more f h (equates-then g more) e
+-- One more does, by what was said of it alone.
+pub plugged-next : (J : Judge) (S T U : State) (vs ns : Forest) (place : ℕ) (x name : Tree) → ArePlugged J S vs ns T → slice_get (each_of vs) place ≡ Some x → slice_get (each_of ns) place ≡ Some name
+    → MayBePlugged J T x name U → ArePlugged J S vs ns U
+plugged-next J S T U vs ns place x name so one other (inl e) = subst (ArePlugged J S vs ns) (sym e) so
+plugged-next J S T U vs ns place x name so one other (inr e) = one_more place x name so one other e
 
--- None lead to the same state.
-pub equates-at : {J : Judge} {S T : State} → T ≡ S → Equates J S T
-equates-at {J} {S} e = subst (Equates J S) (sym e) no_more
+-- They do alike for a judge that accepts the same.
+plugged-by : (J K : Judge) → ((S : State) (f g : Forest) → accepted J S none f g ≡ accepted K S none f g) → {S : State} {vs ns : Forest} {T : State} → ArePlugged J S vs ns T → ArePlugged K S vs ns T
+plugged-by J K same no_more = no_more
+plugged-by J K same (one_more {T = T} place x name more one other e) = one_more place x name (plugged-by J K same more) one other (sym (same T (alone x) (alone name)) ∙ e)
 
--- They lead on alike for a judge that accepts the same.
-pub equates-by : (J K : Judge) → ((S : State) (f g : Forest) → accepted J S none f g ≡ accepted K S none f g) → {S T : State} → Equates J S T → Equates K S T
-equates-by J K same no_more = no_more
-equates-by J K same (one_more {T = T} f g more e) = one_more f g (equates-by J K same more) (sym (same T f g) ∙ e)
+both-plugged-by : (J K : Judge) → ((S : State) (f g : Forest) → accepted J S none f g ≡ accepted K S none f g) → (S T : State) (vs ns : Forest × Forest) → BothArePlugged J S vs ns T
+    → BothArePlugged K S vs ns T
+both-plugged-by J K same S T vs ns h = record { between = h.between; first = plugged-by J K same h.first; second = plugged-by J K same h.second }
 
 -- What is answered of an equation of two arguments, by an evaluator before, which is at the same state.
 pub equation-before : (old mid : Evaluator) (env : ParamEnv) (a b : GenericArg) (r : Option State) → Grows old.context mid.context → fixed mid ≡ fixed old → state mid ≡ state old
@@ -88,11 +94,31 @@ equation-before old mid env a b r g f s e i j h =
 
 -- It was accepted where it was answered so or so, and isn't refused.
 pub led-on : (J : Judge) (S T : State) (ts : List Tree) (env : ParamEnv) (a b : GenericArg) (c : Bool) → env_forest ts env ≡ none → (c ≡ true → arguments_accepted J S ts env a b ≡ Some T)
-    → (c ≡ false → arguments_accepted J S ts env a b ≡ None) → (arguments_accepted J S ts env a b ≡ None → ⊥) → Equates J S T
-led-on J S T ts env a b true empty accepts refuses isnt =
-    one_more (alone (arg_tree ts a)) (alone (arg_tree ts b)) no_more
-    (subst (λ (e : Env). accepted J S e (alone (arg_tree ts a)) (alone (arg_tree ts b)) ≡ Some T) empty (accepts refl))
+    → (c ≡ false → arguments_accepted J S ts env a b ≡ None) → (arguments_accepted J S ts env a b ≡ None → ⊥) → MayBePlugged J S (arg_tree ts a) (arg_tree ts b) T
+led-on J S T ts env a b true empty accepts refuses isnt = inr (subst (λ (e : Env). accepted J S e (alone (arg_tree ts a)) (alone (arg_tree ts b)) ≡ Some T) empty (accepts refl))
 led-on J S T ts env a b false empty accepts refuses isnt = absurd (isnt (refuses refl))
+
+-- what stands in a place of a list of arguments
+
+each-arg : (ts : List Tree) (xs : List GenericArg) → ListFits ts xs → each_of (list_forest ts xs) ≡ map (arg_tree ts) xs
+each-arg ts [] f = refl
+each-arg ts (x ∷ xs) f =
+    let others : ListFits ts xs = cc in
+    one x f ∙ ap (λ (us : List Tree). arg_tree ts x ∷ us) (each-arg ts xs others)
+  where
+    one : (x : GenericArg) → ListFits ts (x ∷ xs) → each_of (list_forest ts (x ∷ xs)) ≡ arg_tree ts x ∷ each_of (list_forest ts xs)
+    one (G.Ty t) f = let i : kind_at ts t.0 ≡ TypeKind = cc in ap each_of (row-single ts t.0 TypeKind (list_forest ts xs) refl refl i)
+    one (G.Const t) f = let i : kind_at ts t.0 ≡ ConstantKind = cc in ap each_of (row-single ts t.0 ConstantKind (list_forest ts xs) refl refl i)
+    one (G.Region t) f = let i : kind_at ts t.0 ≡ RegionKind = cc in ap each_of (row-single ts t.0 RegionKind (list_forest ts xs) refl refl i)
+
+got-mapped : {A B : Type 0} (f : A → B) (xs : List A) (n : ℕ) (d : A) → n < length xs → slice_get (map f xs) n ≡ Some (f (slice_index_or xs n d))
+got-mapped f [] n d l = absurd (omega (arith, l))
+got-mapped f (x ∷ xs) zero d l = refl
+got-mapped f (x ∷ xs) (suc n) d l = let m : n < length xs = omega (arith, l) in got-mapped f xs n d m
+
+pub tree-in-place : (ts : List Tree) (of : Args) (xs : List GenericArg) (d : GenericArg) (n : ℕ) → ListFits ts xs → list_forest ts xs ≡ args_forest ts of → n < length xs
+    → slice_get (each_of (args_forest ts of)) n ≡ Some (arg_tree ts (slice_index_or xs n d))
+tree-in-place ts of xs d n fit is l = ap (λ (us : List Tree). slice_get us n) (sym (ap each_of is) ∙ each-arg ts xs fit) ∙ got-mapped (arg_tree ts) xs n d l
 
 -- The opposite of what a clause says
 
@@ -212,34 +238,49 @@ negated-under old mid env p xs T g s known e same n h =
           (subst (λ (q : State × List Clause). IsNegatedAt f mid.context T q.0 (args_forest mid.context.trees p.second.locals) q.1 n) (λ i. (s i, same i)) h);
     }
 
-pub from-earlier : (old now : Evaluator) (S : State) (T : GoalTable Via) (p : Pair) (n : ℕ) → Grows old.context now.context → fixed now ≡ fixed old → AreOpen old.context.trees p
-    → IsNegatedFrom now S T p n → IsNegatedFrom old S T p n
-from-earlier old now S T p n g f known h = record {
-  plugged = h.plugged;
-  leads = subst (λ (x : Fixed). Equates (judge_of x) S h.plugged) f h.leads;
-  env = h.env;
-  is_env = environment-at-earlier old.context now.context h.plugged p.first h.env g known.0 h.is_env;
-  negated = second-earlier old.context now.context h.env T h.plugged p.second n g known.1 h.negated;
-}
-
--- Two equations led on to where it is known.
-pub negated-from : (old one now : Evaluator) (p : Pair) (T : GoalTable Via) → Grows old.context one.context → Grows one.context now.context → fixed one ≡ fixed old → fixed now ≡ fixed one
-    → Equates (judge_of (fixed old)) (state old) (state one) → Equates (judge_of (fixed one)) (state one) (state now) → AreOpen old.context.trees p → (n : ℕ) → IsNegatedUnder now T p n
-    → IsNegatedFrom old (state old) T p n
-negated-from old one now p T g h f k first second known n x =
-    let here : IsNegatedFrom now (state now) T p n = record { plugged = state now; leads = no_more; env = x.env; is_env = x.is_env; negated = x.negated } in
-    let early = from-earlier old now (state now) T p n (grows-trans old.context one.context now.context g h) (k ∙ f) known here in
+-- Variables of both became placeholders up to where it is known.
+pub negated-from : (old one now : Evaluator) (p : Pair) (placeholders : Args × Args) (T : GoalTable Via) → Grows old.context one.context → Grows one.context now.context → fixed one ≡ fixed old
+    → ArePlugged (judge_of (fixed old)) (state old) (args_forest old.context.trees p.first.locals) (args_forest old.context.trees placeholders.0) (state one)
+    → ArePlugged (judge_of (fixed one)) (state one) (args_forest one.context.trees p.second.locals) (args_forest one.context.trees placeholders.1) (state now) → AreOpen old.context.trees p
+    → IsArgs old.context.trees placeholders.1 → (n : ℕ) → IsNegatedUnder now T p n → IsNegatedFrom old (state old) (both_forests old.context.trees placeholders) T p n
+negated-from old one now p placeholders T g h f first second known fits n x =
+    let c = old.context in
+    let whole = grows-trans old.context one.context now.context g h in
+    let l = (args-kept c one.context p.second.locals g known.1.0).1 in
+    let k = (args-kept c one.context placeholders.1 g fits).1 in
     record {
-      plugged = early.plugged;
-      leads = equates-then first (equates-then (subst (λ (y : Fixed). Equates (judge_of y) (state one) (state now)) f second) early.leads);
-      env = early.env;
-      is_env = early.is_env;
-      negated = early.negated;
+      plugged = state now;
+      leads = record {
+        between = state one;
+        first = first;
+        second = subst (λ (q : Fixed × Forest × Forest). ArePlugged (judge_of q.0) (state one) q.1 q.2 (state now)) (λ i. (f i, l i, k i)) second;
+      };
+      env = x.env;
+      is_env = environment-at-earlier c now.context (state now) p.first x.env whole known.0 x.is_env;
+      negated = second-earlier c now.context x.env T (state now) p.second n whole known.1 x.negated;
     }
 
-pub negated-of-pair : (old now : Evaluator) (p : Pair) (T : GoalTable Via) → Grows old.context now.context → fixed now ≡ fixed old → AreOpen old.context.trees p → headers_equated old p ≡ Some (state now)
-    → (n : ℕ) → IsNegatedFrom now (state now) T p n → IsNegatedOfPair old T p n
-negated-of-pair old now p T g f known equal n h = record { after = state now; equal = equal; from = from-earlier old now (state now) T p n g f known h }
+pub negated-of-pair : (old now : Evaluator) (p : Pair) (placeholders : Args × Args) (T : GoalTable Via) → Grows old.context now.context → fixed now ≡ fixed old → AreOpen old.context.trees p
+    → IsArgs old.context.trees placeholders.0 → IsArgs old.context.trees placeholders.1 → headers_equated old p ≡ Some (state now) → (n : ℕ)
+    → IsNegatedFrom now (state now) (both_forests now.context.trees placeholders) T p n → IsNegatedOfPair old (both_forests old.context.trees placeholders) T p n
+negated-of-pair old now p placeholders T g f known one other equal n h =
+    let c = old.context in
+    let d = now.context in
+    let v = (args-kept c d p.first.locals g known.0.0).1 in
+    let w = (args-kept c d p.second.locals g known.1.0).1 in
+    let a = (args-kept c d placeholders.0 g one).1 in
+    let b = (args-kept c d placeholders.1 g other).1 in
+    record {
+      after = state now;
+      equal = equal;
+      from = record {
+        plugged = h.plugged;
+        leads = subst (λ (q : Fixed × (Forest × Forest) × Forest × Forest). BothArePlugged (judge_of q.0) (state now) q.1 (q.2, q.3) h.plugged) (λ i. (f i, (v i, w i), a i, b i)) h.leads;
+        env = h.env;
+        is_env = environment-at-earlier c d h.plugged p.first h.env g known.0 h.is_env;
+        negated = second-earlier c d h.env T h.plugged p.second n g known.1 h.negated;
+      };
+    }
 
 -- By the declared impls
 
@@ -259,10 +300,12 @@ negated-declared c mid env T S ls i o n g h x =
 
 -- Placeholders were made for both, and then variables.
 module _ (old one two mid : Evaluator) (a b : ImplId) (p : Pair) (first : Grows old.context one.context) (second : Grows one.context two.context) (third : Grows two.context mid.context) where
-  pub negated-here : (T : GoalTable Via) → fixed mid ≡ fixed old → IfSome (impl_at old.context a) (ImplIsGiven old.context) → IfSome (impl_at old.context b) (ImplIsGiven old.context)
-      → state one ≡ with_rigid (state old) (impl_kinds old.context a) → state two ≡ with_rigid (state one) (impl_kinds one.context b)
-      → AreOpened two.context (state two) a b mid.context (state mid) p → (n : ℕ) → IsNegatedOfPair mid T p n → OfDeclared old.context a b (IsNegatedBy old (state old) T n)
-  negated-here T f given other s t o n h =
+  pub negated-here : (T : GoalTable Via) (of_first of_second : Args) → fixed mid ≡ fixed old → IfSome (impl_at old.context a) (ImplIsGiven old.context)
+      → IfSome (impl_at old.context b) (ImplIsGiven old.context) → state one ≡ with_rigid (state old) (impl_kinds old.context a) → state two ≡ with_rigid (state one) (impl_kinds one.context b)
+      → HasTrees one.context.trees of_first (rigid (state old) (impl_kinds old.context a)) → HasTrees two.context.trees of_second (rigid (state one) (impl_kinds one.context b))
+      → AreOpened two.context (state two) a b mid.context (state mid) p → (n : ℕ) → IsNegatedOfPair mid (both_forests mid.context.trees (of_first, of_second)) T p n
+      → OfDeclared old.context a b (IsNegatedBy old (state old) T n)
+  negated-here T of_first of_second f given other s t named-first named-second o n h =
       let c = old.context in
       let g = grows-trans old.context one.context two.context first second in
       let whole = grows-trans old.context two.context mid.context g third in
@@ -273,14 +316,21 @@ module _ (old one two mid : Evaluator) (a b : ImplId) (p : Pair) (first : Grows 
       let other-is = given-early c two.context b j g other o.second_is in
       let between : impl_at one.context b ≡ Some j = impl-same c one.context b first ∙ other-is.0 in
       let W = with_names S i j in
-      let named : state two ≡ W
-      = t ∙ (ap (with_rigid (state one)) (kinds-there one.context b j between) ∙ ap (λ (U : State). entered U j) (s ∙ ap (with_rigid S) (kinds-there c a i one-is.0))) in
+      let entered-first : state one ≡ entered S i = s ∙ ap (with_rigid S) (kinds-there c a i one-is.0) in
+      let named : state two ≡ W = t ∙ (ap (with_rigid (state one)) (kinds-there one.context b j between) ∙ ap (λ (U : State). entered U j) entered-first) in
+      let first-names : args_forest mid.context.trees of_first ≡ rigid S (kinds_of_impl i)
+      = (args-kept one.context mid.context of_first (grows-trans one.context two.context mid.context second third) named-first.0).1 ∙ (named-first.1 ∙ ap (rigid S) (kinds-there c a i one-is.0)) in
+      let second-names : args_forest mid.context.trees of_second ≡ rigid (entered S i) (kinds_of_impl j)
+      = (args-kept two.context mid.context of_second third named-second.0).1
+      ∙ (named-second.1 ∙ (ap (rigid (state one)) (kinds-there one.context b j between) ∙ ap (λ (U : State). rigid U (kinds_of_impl j)) entered-first)) in
       let x = subst (λ (U : State). IsOpenedOf c U i mid.context p.first) named (opened-earlier c two.context mid.context (fresh_variables (state two) (kinds_of_impl i)) i p.first g one-is.1 o.first) in
       let y = subst (λ (U : State). IsOpenedOf c (opened U i) j mid.context p.second) named
       (opened-earlier c two.context mid.context (fresh_variables (opened (state two) i) (kinds_of_impl j)) j p.second g other-is.1 o.second) in
       let u : state mid ≡ opened (opened W i) j = o.left_is ∙ ap (λ (U : State). opened (opened U i) j) named in
       let v = x.header in
       let w = y.header in
+      let l = x.locals in
+      let m = y.locals in
       record {
         i = i;
         j = j;
@@ -290,7 +340,9 @@ module _ (old one two mid : Evaluator) (a b : ImplId) (p : Pair) (first : Grows 
           after = h.after;
           equal = subst (λ (q : Fixed × State × Forest × Forest). accepted (judge_of q.0) q.1 none q.2 q.3 ≡ Some h.after) (λ k. (f k, u k, v k, w k)) h.equal;
           plugged = h.from.plugged;
-          leads = subst (λ (z : Fixed). Equates (judge_of z) h.after h.from.plugged) f h.from.leads;
+          leads =
+              subst (λ (q : Fixed × (Forest × Forest) × Forest × Forest). BothArePlugged (judge_of q.0) h.after q.1 (q.2, q.3) h.from.plugged)
+              (λ k. (f k, (l k, m k), first-names k, second-names k)) h.from.leads;
           env = h.from.env;
           is_env =
               environment-earlier c mid.context (clauses_at c h.from.plugged (locals_of W i) i.wheres) (clauses_at mid.context h.from.plugged (args_forest mid.context.trees p.first.locals) p.first.wheres.items) h.from.env whole
@@ -316,7 +368,8 @@ negated-probed old began ran new a b cx f s g n h =
         after = k.after;
         equal = subst (λ (q : Fixed × Context × State). MakesHeadersEqual (judge_of q.0) q.1 (with_names q.2 i j) i j k.after) (λ z. (f z, cx z, s z)) k.equal;
         plugged = k.plugged;
-        leads = subst (λ (x : Fixed). Equates (judge_of x) k.after k.plugged) f k.leads;
+        leads =
+            subst (λ (q : Fixed × State). BothArePlugged (judge_of q.0) k.after (variables_of (with_names q.1 i j) i j) (names_of q.1 i j) k.plugged) (λ z. (f z, s z)) k.leads;
         env = k.env;
         is_env = subst (λ (q : Context × State). IsEnvironmentOf q.0 (clauses_at q.0 k.plugged (locals_of (with_names q.1 i j) i) i.wheres) k.env) (λ z. (cx z, s z)) k.is_env;
         negated = subst (λ (q : Context × GoalTable Via × State). IsNegatedAt k.env q.0 q.1 k.plugged (locals_of (opened (with_names q.2 i j) i) j) j.wheres n) (λ z. (cx z, t z, s z)) k.negated;
@@ -361,7 +414,9 @@ negated-earlier old mid a b T stays given other n h =
         after = k.after;
         equal = subst (λ (U : State). MakesHeadersEqual (judge_of (fixed old)) c (with_names U i j) i j k.after) s equal;
         plugged = k.plugged;
-        leads = equates-by (judge_of (fixed mid)) (judge_of (fixed old)) same k.leads;
+        leads =
+            subst (λ (U : State). BothArePlugged (judge_of (fixed old)) k.after (variables_of (with_names U i j) i j) (names_of U i j) k.plugged) s
+            (both-plugged-by (judge_of (fixed mid)) (judge_of (fixed old)) same k.after k.plugged (variables_of W i j) (names_of (aside (state mid)) i j) k.leads);
         env = k.env;
         is_env = subst (λ (U : State). IsEnvironmentOf c (clauses_at c k.plugged (locals_of (with_names U i j) i) i.wheres) k.env) s is-env;
         negated = subst (λ (U : State). IsNegatedAt k.env c T k.plugged (locals_of (opened (with_names U i j) i) j) j.wheres n) s negated;

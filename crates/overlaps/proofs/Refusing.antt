@@ -1,5 +1,5 @@
 -- Refusals of goals, of clauses and of one among several, said of earlier evaluators.
-use Rattle.std.proofs.Common.{◌≡◌, ℕ, zero, suc, List, [], ◌∷◌, Some, Result, Ok, Err, IfOk, ◌<◌, arith, length, slice_get, slice_index_or, refl, sym, ap, subst, ◌∙◌}
+use Rattle.std.proofs.Common.{◌≡◌, ℕ, zero, suc, List, [], ◌∷◌, Some, ◌<◌, arith, length, slice_get, slice_index_or, refl, sym, ap, subst, ◌∙◌}
 use Rattle.ir_trees.specs.declared.ir.kinds.Args.{Args}
 use Rattle.ir_trees.specs.declared.ir.kinds.Clause.{Clause}
 use Rattle.ir_trees.specs.declared.ir.kinds.ParamEnv.{ParamEnv}
@@ -19,7 +19,8 @@ use Rattle.candidate_rounds.specs.Evaluators.Interface.{Fixed, fixed, judge_of}
 use Rattle.candidate_rounds.specs.Evaluators.Known.{Evaluator, state}
 use Rattle.candidate_rounds.specs.Table.Running.{StaysBesideTable}
 use Rattle.overlaps.specs.Goals.{WasRefused}
-use Rattle.overlaps.specs.Refused.{ClauseWasRefused, RefusesHere, RefusesOne, RefusesPredicate, goal_alone}
+use Rattle.overlaps.specs.PartTraits.{HaveVariable, RestsOnPart}
+use Rattle.overlaps.specs.Refused.{ClauseWasRefused, RefusesHere, RefusesInstances, RefusesOne, RefusesPredicate, goal_alone}
 
 -- the goal of an environment without clauses
 pub goal-is-alone : (old new : Context) (env : ParamEnv) (p : TraitPredicate) → Grows old new → IsParamEnv old.trees env → IsArgs old.trees p.trait_ref.args → env_forest old.trees env ≡ none
@@ -43,18 +44,34 @@ predicate-refused old mid new env p stays f e a empty h =
     }
 
 -- The predicate is what a clause says, with all values put in.
+-- And each of its instances, by what is asked of the context that is left.
+pub instances-refused : (old mid new : Evaluator) (env : ParamEnv) (p : TraitPredicate) → StaysBesideTable old mid → Grows mid.context new.context → fixed new ≡ fixed mid
+    → IsParamEnv old.context.trees env → IsArgs old.context.trees p.trait_ref.args → env_forest old.context.trees env ≡ none
+    → WasRefused (judge_of (fixed mid)) mid.context (state mid) (trait_goal mid.context.trees env p)
+    → (HaveVariable (args_forest new.context.trees p.trait_ref.args) → RestsOnPart new.context p.trait_ref.def_id → ⊥) → RefusesInstances old new p
+unfolding predicate-refused
+instances-refused old mid new env p stays g f e a empty h never = record {
+  refuses = predicate-refused old mid new env p stays f e a empty h;
+  of_instances = λ some. record {
+    later = new.context;
+    grows = g;
+    never = never (subst HaveVariable (sym (args-kept old.context new.context p.trait_ref.args (grows-trans old.context mid.context new.context stays.grows g) a).1) some);
+  };
+}
+
 pub clause-refused : (old mid new : Evaluator) (t : Tree) (x : Clause) (p : TraitPredicate) → Grows old.context mid.context → state mid ≡ state old
     → clause_tree mid.context.trees x ≡ resolved_tree (state old) t → trait_said (clause_tree mid.context.trees x).head ≡ Some (p.trait_ref.def_id, p.polarity)
-    → arguments_of (clause_tree mid.context.trees x) ≡ args_forest mid.context.trees p.trait_ref.args → RefusesPredicate mid new p → RefusesHere old new t
+    → arguments_of (clause_tree mid.context.trees x) ≡ args_forest mid.context.trees p.trait_ref.args → RefusesInstances mid new p → RefusesHere old new t
 clause-refused old mid new t x p g same is said fits h = record {
-  context = h.context;
-  earlier = grows-trans old.context mid.context h.context g h.earlier;
+  context = h.refuses.context;
+  earlier = grows-trans old.context mid.context h.refuses.context g h.refuses.earlier;
   refused = record {
     goal = goal_alone mid.context.trees p;
     says = ap (λ (u : Tree). trait_said u.head) (sym is) ∙ said;
     arguments = sym fits ∙ ap arguments_of is;
     no_environment = refl;
-    refused = subst (λ (S : State). WasRefused (judge_of (fixed new)) h.context S (goal_alone mid.context.trees p)) same h.refused;
+    refused = subst (λ (S : State). WasRefused (judge_of (fixed new)) h.refuses.context S (goal_alone mid.context.trees p)) same h.refuses.refused;
+    of_instances = h.of_instances;
   };
 }
 
@@ -117,8 +134,3 @@ one-refused old mid new locals xs n x stays a fit is h =
 pub one-earlier : (old mid new : Evaluator) (locals : Args) (xs : List Clause) (n : ℕ) → StaysBesideTable old mid → IsArgs old.context.trees locals → ClauseListFits old.context.trees xs
     → RefusesOne mid new (args_forest mid.context.trees locals) xs n → RefusesOne old new (args_forest old.context.trees locals) xs n
 one-earlier old mid new locals xs n stays a fit h = one-refused old mid new locals xs n h.clause stays a fit h.is h.refuses
-
--- what holds whatever is answered
-pub whatever-ok : {A E : Type 0} (r : Result A E) (P : A → Type 0) → ((a : A) → P a) → IfOk r P
-whatever-ok (Ok a) P f = f a
-whatever-ok (Err e) P f = tt

@@ -1,8 +1,7 @@
 -- Environments of where clauses, and what is said of impls that specialise others, by earlier evaluators and by the declared impls.
-use Rattle.std.proofs.Common.{◌≡◌, ◌≤◌, ◌+◌, ◌++◌, ℕ, false, List, [], ◌∷◌, Some, drop, length, map, slice_index_or, refl, sym, ap, subst, ◌∙◌}
+use Rattle.std.proofs.Common.{◌≡◌, ◌≤◌, ◌+◌, ◌++◌, ℕ, List, [], ◌∷◌, Some, drop, length, map, refl, sym, ap, subst, ◌∙◌}
 use Rattle.std.proofs.lemmas.List.{append-nil, append_assoc, drop_all}
 use Rattle.ir_trees.specs.declared.decl.contents.ImplId.{ImplId}
-use Rattle.ir_trees.specs.declared.ir.kinds.Args.{Args}
 use Rattle.ir_trees.specs.declared.ir.kinds.Clause.{Clause}
 use Rattle.ir_trees.specs.declared.ir.kinds.ParamEnv.{ParamEnv}
 use Rattle.ir_trees.specs.Declarations.Context.{Context, Grows}
@@ -13,7 +12,7 @@ use Rattle.ir_trees.specs.Instantiation.Folding.{substituted_tree}
 use Rattle.ir_trees.specs.Syntax.Nodes.{kind_at}
 use Rattle.ir_trees.specs.Syntax.Trees.{ClauseKind, Forest, Tree}
 use Rattle.ir_trees.specs.Syntax.Words.{ClauseListFits, IsClause, IsParamEnv, args_forest, clause_list_forest, clause_tree, env_forest}
-use Rattle.ir_trees.proofs.Growth.Kept.{args-kept, grows-refl, grows-trans}
+use Rattle.ir_trees.proofs.Growth.Kept.{grows-refl, grows-trans}
 use Rattle.ir_folds.proofs.Instantiation.Joining.{clause-kept}
 use Rattle.ir_trees.proofs.Syntax.Rows.{row-single}
 use Rattle.candidate_eval.specs.Dynamic.Required.{each_of}
@@ -28,11 +27,11 @@ use Rattle.candidate_rounds.specs.Table.Goals.{Via}
 use Rattle.candidate_rounds.specs.Table.Running.{StaysBesideTable}
 use Rattle.rounds_judge.specs.Table.GoalTable.{GoalTable}
 use Rattle.overlaps.specs.Answered.{AllHold}
-use Rattle.overlaps.specs.Apart.{IfDeclared, OfDeclared, aside, entered, opened}
+use Rattle.overlaps.specs.Apart.{IfDeclared, aside, entered}
 use Rattle.overlaps.specs.Instance.{HaveNoAlias}
 use Rattle.overlaps.specs.Opening.{AreEntered, IsOpenedWith}
 use Rattle.overlaps.specs.Refused.{AreOpen, IsOpen, locals_of}
-use Rattle.overlaps.specs.Specialized.{AreAlike, IsEnvironmentOf, IsEnvironmentOfOpen, IsFoundOfPair, IsFoundWhereEqual, IsInstanceBy, IsSpecialization, IsSpecializationAt, PairSpecializes, Specializes, entered_header, entered_wheres, open_header}
+use Rattle.overlaps.specs.Specialized.{AreAlike, IsEnvironmentOf, IsEnvironmentOfOpen, IsFoundOfPair, IsFoundWhereEqual, IsInstanceBy, IsSpecialization, IsSpecializationAt, entered_wheres}
 use Rattle.overlaps.specs.declared.opening.Opened.{Opened}
 use Rattle.overlaps.specs.declared.opening.Pair.{Pair}
 use Rattle.overlaps.specs.declared.specializing.Specialization.{Specialization}

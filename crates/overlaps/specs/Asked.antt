@@ -1,11 +1,9 @@
 -- What it says that where clauses were asked, and that none of them is refused: each stays, for a reason.
 use Rattle.std.specs.Prelude.{◌≡◌, ◌||◌, ℕ, zero, suc, true, false, None, Some, List, length, slice_get}
 use Rattle.ir_trees.specs.declared.decl.contents.ImplId.{ImplId}
-use Rattle.ir_trees.specs.declared.ir.heads.Flag.TheVariants as flag
 use Rattle.ir_trees.specs.declared.ir.kinds.Clause.{Clause}
 use Rattle.ir_trees.specs.Declarations.Context.{Context, Grows}
 use Rattle.ir_trees.specs.Declarations.Contents.{Impl}
-use Rattle.ir_trees.specs.Syntax.Flags.{mark}
 use Rattle.ir_trees.specs.Syntax.Trees.{Forest, none, Tree, holds, is_alias}
 use Rattle.ir_trees.specs.Syntax.Words.{args_forest}
 use Rattle.candidate_eval.specs.declared.eval.mode.TypingMode.TheVariants.{Coherence}
@@ -27,7 +25,7 @@ use Rattle.overlaps.specs.Apart.{OfDeclared, aside, opened}
 use Rattle.overlaps.specs.Goals.{WasRefused}
 use Rattle.overlaps.specs.Instance.{first_header, second_header}
 use Rattle.overlaps.specs.Ordered.{in_order}
-use Rattle.overlaps.specs.PartTraits.{MayRestOnPart}
+use Rattle.overlaps.specs.PartTraits.{HaveVariable, MayRestOnPart}
 use Rattle.overlaps.specs.Refused.{MakesHeadersEqual, clause_at, headers_equated, locals_of}
 use Rattle.overlaps.specs.Stopping.{IsLater}
 use Rattle.overlaps.specs.declared.opening.Opened.{Opened}
@@ -48,10 +46,6 @@ pub record WasAnswered (J : Judge) (c : Context) (S : State) (g : TraitGoal) : T
   pub proved : Proved
   pub left : State
   pub comes : IsTraitAnswer J c S g left (Answered proved)
-
--- a variable of types or of constants stands in the trees
-abbrev pub HaveVariable : Forest → Type 0
-HaveVariable ts = holds (mark flag.TyInfer) ts || holds (mark flag.ConstInfer) ts ≡ true
 
 -- Once the goal was run it has an answer; or it is refused, and has instances that may have another answer: a variable stands in it, and it may
 -- rest on an impl of an auto trait, as a context has it that comes after.

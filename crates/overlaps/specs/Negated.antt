@@ -1,5 +1,5 @@
 -- When a where clause of one of two impls is known not to hold where the other one does.
-use Rattle.std.specs.Prelude.{◌≡◌, ◌∷◌, [], ℕ, List, Some, map, slice_get}
+use Rattle.std.specs.Prelude.{◌≡◌, ◌⊎◌, ◌∷◌, [], ℕ, List, Some, map, slice_get}
 use Rattle.std.specs.List.{Contains}
 use Rattle.ir_trees.specs.declared.decl.contents.ImplId.{ImplId}
 use Rattle.ir_trees.specs.declared.ir.kinds.Args.{Args}
@@ -12,12 +12,15 @@ use Rattle.ir_trees.specs.Declarations.Contents.{Impl}
 use Rattle.ir_trees.specs.Hierarchy.Elaboration.{IsElaboration}
 use Rattle.ir_trees.specs.Syntax.Trees.{Forest, none, Tree}
 use Rattle.ir_trees.specs.Syntax.Words.{args_forest, clause_tree, env_forest}
+use Rattle.ir_trees.specs.Unification.Substitutions.{alone}
 use Rattle.candidate_eval.specs.Derivations.ImplRules.{TraitGoal}
 use Rattle.candidate_eval.specs.Dynamic.ObjectRequirements.{arguments_of, trait_said}
-use Rattle.candidate_eval.specs.Interface.Evaluators.{accepted}
+use Rattle.candidate_eval.specs.Dynamic.Required.{each_of}
+use Rattle.candidate_eval.specs.Interface.Evaluators.{accepted, rigid}
 use Rattle.candidate_eval.specs.Judges.States.{Env, Judge, State}
+use Rattle.candidate_assembly.specs.Answers.KnownImpls.{kinds_of_impl}
 use Rattle.candidate_rounds.specs.Evaluators.Interface.{fixed, judge_of}
-use Rattle.candidate_rounds.specs.Evaluators.Known.{Evaluator, state, table_of}
+use Rattle.candidate_rounds.specs.Evaluators.Known.{Evaluator, state}
 use Rattle.candidate_rounds.specs.Table.Goals.{Via}
 use Rattle.rounds_judge.specs.Table.GoalTable.{GoalTable, verdict_in}
 use Rattle.rounds_judge.specs.Table.Keys.{key_at}
@@ -96,37 +99,65 @@ pub record IsNegatedUnder (r : Evaluator) (T : GoalTable Via) (p : Pair) (number
   pub is_env : IsEnvironmentAt r.context (state r) p.first env
   pub negated : IsNegatedAt env r.context T (state r) (args_forest r.context.trees p.second.locals) p.second.wheres.items number
 
--- Accepted equations lead from the first state to the second one.
-pub data Equates (J : Judge) (S : State) : State → Type 0 where
-  no_more : Equates J S S
-  one_more : {T U : State} (f g : Forest) → Equates J S T → accepted J T none f g ≡ Some U → Equates J S U
+-- Variables become placeholders, each the one that stands in its own place of the other row: accepted equations of the two lead from the first state
+-- to the second one.
+pub data ArePlugged (J : Judge) (S : State) (variables placeholders : Forest) : State → Type 0 where
+  no_more : ArePlugged J S variables placeholders S
+  one_more : {T U : State} (place : ℕ) (x name : Tree) → ArePlugged J S variables placeholders T → slice_get (each_of variables) place ≡ Some x
+      → slice_get (each_of placeholders) place ≡ Some name → accepted J T none (alone x) (alone name) ≡ Some U → ArePlugged J S variables placeholders U
 
--- The same of two open impls, once equations have led on from that state.
-pub record IsNegatedFrom (r : Evaluator) (after : State) (T : GoalTable Via) (p : Pair) (number : ℕ) : Type 0 where
+-- One becomes its own, or the state stays.
+abbrev pub MayBePlugged : Judge → State → Tree → Tree → State → Type 0
+MayBePlugged J S x name T = (T ≡ S) ⊎ (accepted J S none (alone x) (alone name) ≡ Some T)
+
+-- The variables of two impls do, those of the first before those of the second.
+pub record BothArePlugged (J : Judge) (S : State) (variables placeholders : Forest × Forest) (T : State) : Type 0 where
+  pub between : State
+  pub first : ArePlugged J S variables.0 placeholders.0 between
+  pub second : ArePlugged J between variables.1 placeholders.1 T
+
+-- the trees of two lists, and of what stands for the parameters of two open impls
+
+abbrev pub both_forests : List Tree → Args × Args → Forest × Forest
+both_forests ts xs = (args_forest ts xs.0, args_forest ts xs.1)
+
+abbrev pub locals_of_both : List Tree → Pair → Forest × Forest
+locals_of_both ts p = both_forests ts (p.first.locals, p.second.locals)
+
+-- The same of two open impls, once their variables have become these placeholders from that state on.
+pub record IsNegatedFrom (r : Evaluator) (after : State) (placeholders : Forest × Forest) (T : GoalTable Via) (p : Pair) (number : ℕ) : Type 0 where
   pub plugged : State
-  pub leads : Equates (judge_of (fixed r)) after plugged
+  pub leads : BothArePlugged (judge_of (fixed r)) after (locals_of_both r.context.trees p) placeholders plugged
   pub env : Env
   pub is_env : IsEnvironmentAt r.context plugged p.first env
   pub negated : IsNegatedAt env r.context T plugged (args_forest r.context.trees p.second.locals) p.second.wheres.items number
 
 -- The same, once their headers were made equal.
-pub record IsNegatedOfPair (r : Evaluator) (T : GoalTable Via) (p : Pair) (number : ℕ) : Type 0 where
+pub record IsNegatedOfPair (r : Evaluator) (placeholders : Forest × Forest) (T : GoalTable Via) (p : Pair) (number : ℕ) : Type 0 where
   pub after : State
   pub equal : headers_equated r p ≡ Some after
-  pub from : IsNegatedFrom r after T p number
+  pub from : IsNegatedFrom r after placeholders T p number
 
 -- The state in which placeholders of fresh universes stand for the parameters of both, before these have variables.
 abbrev pub with_names : State → Impl → Impl → State
 with_names S i j = entered (entered S i) j
 
--- At that state of an evaluator, of the second impl this where clause is known not to hold where the first one does. Their headers were made equal,
--- and further equations lead on from there. Under the first one's where clauses with all values put in, and all that these imply, the clause
--- implies one of which the opposite is answered.
+-- these placeholders, of the first one and of the second one
+abbrev pub names_of : State → Impl → Impl → Forest × Forest
+names_of S i j = (rigid S (kinds_of_impl i), rigid (entered S i) (kinds_of_impl j))
+
+-- the variables that stand for the parameters of both
+abbrev pub variables_of : State → Impl → Impl → Forest × Forest
+variables_of S i j = (locals_of S i, locals_of (opened S i) j)
+
+-- At that state of an evaluator, of the second impl this where clause is known not to hold where the first one does, of whatever both are instances.
+-- Their headers were made equal, and the variables of both that are left became placeholders, each its own. Under the first one's where clauses with
+-- all values put in, and all that these imply, the clause implies one of which the opposite is answered.
 pub record IsNegatedBy (old : Evaluator) (S : State) (T : GoalTable Via) (number : ℕ) (i j : Impl) : Type 0 where
   pub after : State
   pub equal : MakesHeadersEqual (judge_of (fixed old)) old.context (with_names S i j) i j after
   pub plugged : State
-  pub leads : Equates (judge_of (fixed old)) after plugged
+  pub leads : BothArePlugged (judge_of (fixed old)) after (variables_of (with_names S i j) i j) (names_of S i j) plugged
   pub env : Env
   pub is_env : IsEnvironmentOf old.context (clauses_at old.context plugged (locals_of (with_names S i j) i) i.wheres) env
   pub negated : IsNegatedAt env old.context T plugged (locals_of (opened (with_names S i j) i) j) j.wheres number

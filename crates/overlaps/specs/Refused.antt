@@ -20,6 +20,7 @@ use Rattle.candidate_rounds.specs.Table.Running.{PutsOffByGoals, with_table}
 use Rattle.rounds_judge.specs.Equations.Opening.{are_open}
 use Rattle.overlaps.specs.Apart.{aside, opened}
 use Rattle.overlaps.specs.Goals.{WasRefused}
+use Rattle.overlaps.specs.PartTraits.{IsOfInstances}
 use Rattle.overlaps.specs.declared.opening.Opened.{Opened}
 use Rattle.overlaps.specs.declared.opening.Pair.{Pair}
 use Rattle.overlaps.specs.declared.overlap.WhereClause.{WhereClause}
@@ -39,13 +40,14 @@ goal_alone ts p = record {
   polarity = p.polarity;
 }
 
--- What the clause says of a trait was refused at the state, asked without an environment.
+-- What the clause says of a trait was refused at the state, asked without an environment; and so are all its instances, as far as auto traits go.
 pub record ClauseWasRefused (J : Judge) (c : Context) (S : State) (clause : Tree) : Type 0 where
   pub goal : TraitGoal
   pub says : trait_said clause.head ≡ Some (record { 0 = goal.reference.trait }, goal.polarity)
   pub arguments : goal.reference.arguments ≡ arguments_of clause
   pub no_environment : goal.env ≡ none
   pub refused : WasRefused J c S goal
+  pub of_instances : IsOfInstances c (record { 0 = goal.reference.trait }) goal.reference.arguments
 
 -- The same of a clause into which the values of the state are put, by the table that is left, as a context has it that comes after the first.
 pub record RefusesHere (old new : Evaluator) (clause : Tree) : Type 0 where
@@ -58,6 +60,11 @@ pub record RefusesPredicate (old new : Evaluator) (p : TraitPredicate) : Type 0 
   pub context : Context
   pub earlier : Grows old.context context
   pub refused : WasRefused (judge_of (fixed new)) context (state old) (goal_alone old.context.trees p)
+
+-- And of all its instances, as far as auto traits go.
+pub record RefusesInstances (old new : Evaluator) (p : TraitPredicate) : Type 0 where
+  pub refuses : RefusesPredicate old new p
+  pub of_instances : IsOfInstances refuses.context p.trait_ref.def_id (args_forest old.context.trees p.trait_ref.args)
 
 -- The same of the clause of that number, in which these stand for the parameters.
 pub record RefusesOne (old new : Evaluator) (locals : Forest) (clauses : List Clause) (n : ℕ) : Type 0 where

@@ -45,6 +45,7 @@ use Rattle.rounds_judge.specs.Table.Verdicts as verdict
 use Rattle.overlaps.specs.Apart.{OfDeclared, aside, opened}
 use Rattle.overlaps.specs.Ordered.{in_order}
 use Rattle.overlaps.specs.Refused.{ClauseWasRefused, MakesHeadersEqual, headers_equated, locals_of}
+use Rattle.overlaps.specs.PartTraits.{IsOfInstances, SpeaksOfNoPart}
 use Rattle.overlaps.specs.Stopping.{IsLater}
 use Rattle.overlaps.specs.declared.opening.Opened.{Opened}
 use Rattle.overlaps.specs.declared.opening.Pair.{Pair}
@@ -103,9 +104,13 @@ pub record HasYes (T : GoalTable Via) (k : Key) : Type 0 where
   pub way : Option Via
   pub yes : verdict_in T k ≡ Some (verdict.Yes response way)
 
--- At the state a sure answer says what the projection is, asked of an evaluator that comes after, without an environment, and whose table has a
--- yes for the goal that the projection's trait holds; and this is known once what it says is given, with the variable that comes next for the
--- type: nothing, where that can't be.
+-- What the projection's trait's goal comes to is so of its instances.
+abbrev pub IsOfProjection : Context → ParamEnv → AliasTy → Type 0
+IsOfProjection c env alias = let g = goal_of_trait c env alias in IsOfInstances c (record { 0 = g.reference.trait }) g.reference.arguments
+
+-- At the state a sure answer says what the projection is and its instances are, asked of an evaluator that comes after, without an environment, and whose
+-- table has a yes for the goal that the projection's trait holds; and this is known once what it says is given, with the variable that comes next for
+-- the type: nothing, where that can't be.
 pub record IsNormalAt (r : Evaluator) (S : State) (projection : Tree) (known : Option State) : Type 0 where
   pub by : Evaluator
   pub later : IsLater r by
@@ -121,6 +126,7 @@ pub record IsNormalAt (r : Evaluator) (S : State) (projection : Tree) (known : O
   pub trait_holds : HasYes (table_of by) (key_at S (goal_of_trait by.context env alias))
   pub comes : IsNormalized trees by env alias rounds table (Ok (Some response))
   pub sure : response.certainty ≡ Yes
+  pub of_instances : IsOfProjection by.context env alias
   pub gives : with_normal (listing by) S (goal_of_trait by.context env alias) (response_of trees response) ≡ known
 
 -- From the state on the goals can't hold together.
@@ -129,9 +135,11 @@ pub data CannotHold (r : Evaluator) : State → List Pending → Type 0 where
   one_is_refused : {S : State} {ps : List Pending} (p : Pending) → Contains ps p → GoalIsRefused r S p → CannotHold r S ps
   -- they can't with one in which all values are put in
   one_with_values : {S : State} {ps : List Pending} (p : Pending) → Contains ps p → CannotHold r S (with_values S p ∷ ps) → CannotHold r S ps
-  -- the judge of an evaluator that comes after refuses to settle one alone; or the others can't by what it gives, with what stays of it
-  one_is_unsettled : {S : State} {ps : List Pending} (p : Pending) (by : Evaluator) → Contains ps p → IsLater r by → (judge_of (fixed by)).settled (with_alone S p) ≡ None → CannotHold r S ps
-  one_is_settled : {S : State} {ps : List Pending} (p : Pending) (by : Evaluator) (x : Certainty) (T : State) → Contains ps p → IsLater r by
+  -- the judge of an evaluator that comes after refuses to settle one alone, which speaks of no trait that rests on a part of an auto trait's impls; or the
+  -- others can't by what it gives, with what stays of it
+  one_is_unsettled : {S : State} {ps : List Pending} (p : Pending) (by : Evaluator) → Contains ps p → SpeaksOfNoPart r.context p.goal.clause → IsLater r by
+      → (judge_of (fixed by)).settled (with_alone S p) ≡ None → CannotHold r S ps
+  one_is_settled : {S : State} {ps : List Pending} (p : Pending) (by : Evaluator) (x : Certainty) (T : State) → Contains ps p → SpeaksOfNoPart r.context p.goal.clause → IsLater r by
       → (judge_of (fixed by)).settled (with_alone S p) ≡ Some (x, T) → CannotHold r (aside T) (T.pending ++ ps) → CannotHold r S ps
   -- the type of a projection in the clause of one isn't possible; or they can't with it in the projection's place
   no_type : {S : State} {ps : List Pending} (p : Pending) (projection : Tree) → Contains ps p → StandsIn projection (alone p.goal.clause) → IsNormalAt r S projection None → CannotHold r S ps
@@ -193,6 +201,7 @@ pub record CameOf (old new : Evaluator) (env : ParamEnv) (alias : AliasTy) (resp
   pub rounds : ℕ
   pub trait_holds : HasYes (table_of by) (key_at (state by) (goal_of_trait by.context env alias))
   pub comes : IsNormalized new.context.trees by env alias rounds (table_of new) (Ok (Some response))
+  pub of_instances : IsOfProjection by.context env alias
 
 -- What a response says of a projection was given, if it is sure.
 abbrev pub IsGivenAs : Evaluator → Evaluator → ParamEnv → AliasTy → CanonicalResponse → ProjectionType → Type 0

@@ -1,81 +1,92 @@
 //! Auto traits that are implemented for some types of a head alone: what a goal of theirs comes to isn't so of each of its instances, unless
 //! an impl bars each type with the head.
 
-ghost use Rattle.std.specs.Prelude.{◌≡◌, ◌<◌, false, true, IfErr, IfOk, length};
-ghost use Rattle.ir_trees.specs.Instantiation.Folds.{IsArg};
-ghost use Rattle.ir_trees.specs.Syntax.Words.{ClauseListFits, IsArgs, IsTy, args_forest};
-ghost use Rattle.overlaps.specs.Asked.{HaveVariable};
-ghost use Rattle.overlaps.specs.PartTraits.{AddsOnly, IsAutoWithImpl, IsNext, IsSaid, IsUnsizing, MayRestOnPart, wheres_at};
+ghost use Rattle.std.specs.Prelude.{◌≡◌, ◌<◌, ℕ, Some, false, true, IfErr, IfOk, length};
+ghost use Rattle.ir_trees.specs.declared.ir.kinds.TraitId.{TraitId};
+ghost use Rattle.ir_trees.specs.Syntax.Nodes.{tree_at};
+ghost use Rattle.ir_trees.specs.Syntax.Words.{ClauseListFits, IsArgs, IsClause, IsTy, args_forest, clause_tree, ty_tree};
+ghost use Rattle.overlaps.specs.PartTraits.{Adds, HaveVariable, IsAskedByLanguage, IsAutoWith, IsForPart, IsItem, IsNext, IsPart, IsSaid, IsSaidByImpl, IsSaidOfItem, IsSaidOfItems, MayRestOnPart, RestsOnPart, StandsAt, is_parameter, trait_spoken_of, wheres_at};
 
-use candidate_eval::eval::clauses::{predicate_in, self_ty};
+use candidate_eval::eval::clauses::self_ty;
 use ir_context::decl::Cx;
 use ir_trees::decl::contents::{ImplId, LangItem};
-use ir_trees::ir::heads::Flag;
-use ir_trees::ir::kinds::{Args, Clause, ConstKind, GenericArg, TraitId, TraitRef, Ty, TyKind};
+use ir_trees::ir::heads::{ConstHead, Flag, Head};
+use ir_trees::ir::kinds::{AliasId, AssocId, Clause, ClauseKind, TraitId, TraitRef, Ty, TyKind};
 use ir_trees::ir::stop::Stop;
 use ir_trees::ir::trees::Trees;
 use std::alloc::Global;
 
-/// Whether the argument is a parameter, or a region.
-fn is_parameter(cx: &Cx, arg: GenericArg) -> bool
-    requires { IsArg cx.now.trees arg }
+/// Whether the tree of the number is a parameter, or a region.
+fn is_parameter(cx: &Cx, number: u32) -> bool
+    requires { number < length cx.now.trees }
+    ensures { result ≡ is_parameter (tree_at cx.now.trees number).head }
 {
-    match arg {
-        GenericArg::Ty(ty) => matches!(cx.kind(ty), TyKind::Param(_)),
-        GenericArg::Const(value) => matches!(cx.const_kind(value), ConstKind::Param(_)),
-        GenericArg::Region(_) => true,
+    match cx.head(number) {
+        Head::Param(_) | Head::Const(ConstHead::Param(_)) | Head::Region(_) => true,
+        _ => false,
     }
 }
 
-/// Whether what stands at that place stands before it, too.
-fn stands_before(list: &[GenericArg], place: usize) -> bool
-    requires { place < length list.now }
+/// Whether the child stands at that place below the number.
+fn stands_at(cx: &Cx, number: u32, child: u32, place: usize) -> bool
+    requires number { number < length cx.now.trees }
+    requires child { child < length cx.now.trees }
+    ensures { let ts = cx.now.trees in result ≡ false → StandsAt (tree_at ts child) place (tree_at ts number).children → ⊥ }
+{
+    cx.recall_distinct();
+    match cx.child(number, place) {
+        Some(other) => other == child,
+        None => false,
+    }
+}
+
+/// Whether the child stands at a place before that one below the number.
+fn stands_before(cx: &Cx, number: u32, child: u32, place: usize) -> bool
+    requires number { number < length cx.now.trees }
+    requires child { child < length cx.now.trees }
+    ensures { let ts = cx.now.trees in result ≡ false → (m : ℕ) → m < place → StandsAt (tree_at ts child) m (tree_at ts number).children → ⊥ }
 {
     for earlier in 0..place {
-        if list[earlier] == list[place] {
+        if stands_at(cx, number, child, earlier) {
             return true;
         }
     }
     false
 }
 
-/// Whether the arguments are parameters, each another one, or regions.
-fn are_parameters(cx: &Cx, args: Args) -> bool
-    requires { IsArgs cx.now.trees args }
+/// Whether the child at that place below the number is a parameter or a region, and another one than those before it.
+fn is_new_parameter(cx: &Cx, number: u32, child: u32, place: usize) -> bool
+    requires number { number < length cx.now.trees }
+    requires child { child < length cx.now.trees }
+    ensures parameter { result ≡ true → is_parameter (tree_at cx.now.trees child).head ≡ true }
+    ensures new { let ts = cx.now.trees in result ≡ true → (m : ℕ) → m < place → StandsAt (tree_at ts child) m (tree_at ts number).children → ⊥ }
 {
-    let list = cx.args(args);
-    for place in 0..list.len() {
-        if !is_parameter(cx, list[place]) || stands_before(list, place) {
+    is_parameter(cx, child) && !stands_before(cx, number, child, place)
+}
+
+/// Whether it is an alias, or a head over anything but parameters and regions, each another one, so that it is a part of the types with that head.
+fn is_part(cx: &Cx, ty: Ty) -> bool
+    requires { IsTy cx.now.trees ty }
+    ensures { result ≡ false → IsPart (ty_tree cx.now.trees ty) → ⊥ }
+{
+    if cx.head(ty.0).has(Flag::Alias) {
+        return true;
+    }
+    for place in 0..usize::MAX {
+        let Some(child) = cx.child(ty.0, place) else {
             return false;
+        };
+        if !is_new_parameter(cx, ty.0, child, place) {
+            return true;
         }
     }
     true
 }
 
-/// Whether it is a head over anything but parameters, each another one, so that it is a part of the types with that head.
-fn is_part(cx: &Cx, ty: Ty) -> bool
-    requires { IsTy cx.now.trees ty }
-{
-    match cx.kind(ty) {
-        TyKind::Adt(_, args) => !are_parameters(cx, args),
-        TyKind::Tuple(args) => !are_parameters(cx, args),
-        TyKind::FnDef(_, args) => !are_parameters(cx, args),
-        TyKind::Ref(_, of, _) => !is_parameter(cx, GenericArg::Ty(of)),
-        TyKind::RawPtr(of, _) => !is_parameter(cx, GenericArg::Ty(of)),
-        TyKind::Slice(of) => !is_parameter(cx, GenericArg::Ty(of)),
-        TyKind::Array(_, _)
-        | TyKind::Closure(_, _)
-        | TyKind::FnPtr(_)
-        | TyKind::Pat(_, _)
-        | TyKind::UnsafeBinder(_)
-        | TyKind::Dynamic(_, _)
-        | TyKind::Alias(_) => true,
-        _ => false,
-    }
-}
-
 /// Whether the impl is for such a part.
-fn is_for_part(cx: &Cx, of: ImplId) -> bool {
+fn is_for_part(cx: &Cx, of: ImplId) -> bool
+    ensures { result ≡ false → IsForPart cx.now of → ⊥ }
+{
     match cx.impl_contents(of) {
         Some(contents) => is_part(cx, self_ty(cx, contents.trait_ref)),
         None => false,
@@ -84,7 +95,8 @@ fn is_for_part(cx: &Cx, of: ImplId) -> bool {
 
 /// Whether the trait is an auto trait of which an impl is for a part of the types with a head, and bars no other type with that head.
 fn is_implemented_by_part(cx: &Cx, of: TraitId) -> bool
-    ensures { result ≡ true → IsAutoWithImpl cx.now of }
+    ensures by { result ≡ true → IsAutoWith cx.now (λ i. Unit {0}) of }
+    ensures never { result ≡ false → IsAutoWith cx.now (IsForPart cx.now) of → ⊥ }
 {
     let Some(flags) = cx.trait_flags(of) else {
         return false;
@@ -103,7 +115,7 @@ fn is_implemented_by_part(cx: &Cx, of: TraitId) -> bool
 
 /// Adds the trait to the list, unless it is there.
 fn add_trait(traits: &mut Vec<TraitId>, of: TraitId) -> Result<(), Stop>
-    ensures adds { IfOk result (λ _. AddsOnly (λ t. t ≡ of) traits.old.items traits.new.items) }
+    ensures adds { IfOk result (λ _. Adds (λ t. of ≡ t) traits.old.items traits.new.items) }
     ensures cause { IfErr result (λ s. s ≡ Stop.Memory) }
 {
     for number in 0..traits.len() {
@@ -114,23 +126,48 @@ fn add_trait(traits: &mut Vec<TraitId>, of: TraitId) -> Result<(), Stop>
     Ok(traits.push(of)?)
 }
 
+/// The trait of which the clause says something, or of whose associated type it says what that is.
+fn trait_spoken_of(cx: &Cx, clause: Clause) -> Option<TraitId>
+    requires { IsClause cx.now.trees clause }
+    ensures { result ≡ trait_spoken_of cx.now (clause_tree cx.now.trees clause).head }
+{
+    match cx.clause(clause).value {
+        ClauseKind::Trait(predicate) => Some(predicate.trait_ref.def_id),
+        ClauseKind::Projection(said) => cx.assoc_trait(said.projection_term.def_id),
+        ClauseKind::TypeOutlives(_, _)
+        | ClauseKind::RegionOutlives(_, _)
+        | ClauseKind::AliasRelate(_, _)
+        | ClauseKind::ConstEquate(_, _) => None,
+    }
+}
+
+/// Adds the trait of which the clause says something.
+fn add_trait_of_clause(cx: &Cx, clause: Clause, traits: &mut Vec<TraitId>) -> Result<(), Stop>
+    requires { IsClause cx.now.trees clause }
+    ensures adds { let c = cx.now in IfOk result (λ _. Adds (λ t. trait_spoken_of c (clause_tree c.trees clause).head ≡ Some t) traits.old.items traits.new.items) }
+    ensures cause { IfErr result (λ s. s ≡ Stop.Memory) }
+{
+    match trait_spoken_of(cx, clause) {
+        Some(of) => add_trait(traits, of),
+        None => Ok(()),
+    }
+}
+
 /// Adds the traits of which the clauses say something.
 fn add_traits(cx: &Cx, clauses: &[Clause], traits: &mut Vec<TraitId>) -> Result<(), Stop>
     requires { ClauseListFits cx.now.trees clauses.now }
-    ensures adds { IfOk result (λ _. AddsOnly (IsSaid cx.now clauses.now) traits.old.items traits.new.items) }
+    ensures adds { IfOk result (λ _. Adds (IsSaid cx.now clauses.now) traits.old.items traits.new.items) }
     ensures cause { IfErr result (λ s. s ≡ Stop.Memory) }
 {
     for number in 0..clauses.len() {
-        if let Some(predicate) = predicate_in(cx, clauses[number]) {
-            add_trait(traits, predicate.trait_ref.def_id)?;
-        }
+        add_trait_of_clause(cx, clauses[number], traits)?;
     }
     Ok(())
 }
 
 /// Adds the traits of the impl's where clauses.
 fn add_traits_of_impl(cx: &Cx, of: ImplId, traits: &mut Vec<TraitId>) -> Result<(), Stop>
-    ensures adds { IfOk result (λ _. AddsOnly (IsSaid cx.now (wheres_at cx.now of)) traits.old.items traits.new.items) }
+    ensures adds { IfOk result (λ _. Adds (IsSaid cx.now (wheres_at cx.now of)) traits.old.items traits.new.items) }
     ensures cause { IfErr result (λ s. s ≡ Stop.Memory) }
 {
     match cx.impl_contents(of) {
@@ -139,12 +176,11 @@ fn add_traits_of_impl(cx: &Cx, of: ImplId, traits: &mut Vec<TraitId>) -> Result<
     }
 }
 
-/// Adds the traits to which a goal of the trait may lead: its supertraits, and those of the where clauses of its impls.
-fn add_next(cx: &Cx, of: TraitId, traits: &mut Vec<TraitId>) -> Result<(), Stop>
-    ensures adds { IfOk result (λ _. AddsOnly (IsNext cx.now of) traits.old.items traits.new.items) }
+/// Adds the traits of the where clauses of the trait's impls.
+fn add_traits_of_impls(cx: &Cx, of: TraitId, traits: &mut Vec<TraitId>) -> Result<(), Stop>
+    ensures adds { IfOk result (λ _. Adds (IsSaidByImpl cx.now of) traits.old.items traits.new.items) }
     ensures cause { IfErr result (λ s. s ≡ Stop.Memory) }
 {
-    add_traits(cx, cx.super_clauses(of), traits)?;
     let impls = cx.impls_of(of);
     for number in 0..impls.len() {
         add_traits_of_impl(cx, impls[number], traits)?;
@@ -152,37 +188,124 @@ fn add_next(cx: &Cx, of: TraitId, traits: &mut Vec<TraitId>) -> Result<(), Stop>
     Ok(())
 }
 
-/// Whether the trait is that of unsizing, of which a goal may lead to each auto trait that the target's bounds name.
-fn is_unsizing(cx: &Cx, of: TraitId) -> bool
-    ensures { result ≡ true → IsUnsizing cx.now of }
+/// Adds the traits of the associated type's bounds.
+fn add_traits_of_item(cx: &Cx, of: AssocId, traits: &mut Vec<TraitId>) -> Result<(), Stop>
+    ensures adds { IfOk result (λ _. Adds (IsSaidOfItem cx.now of) traits.old.items traits.new.items) }
+    ensures cause { IfErr result (λ s. s ≡ Stop.Memory) }
 {
-    match cx.lang_item(LangItem::Unsize) {
-        Some(unsize) => unsize == of,
+    let alias = AliasId(of.0);
+    add_traits(cx, cx.self_bounds(alias), traits)?;
+    add_traits(cx, cx.non_self_bounds(alias), traits)
+}
+
+/// Adds the traits of the bounds of the trait's associated types.
+fn add_traits_of_items(cx: &Cx, of: TraitId, traits: &mut Vec<TraitId>) -> Result<(), Stop>
+    ensures adds { IfOk result (λ _. Adds (IsSaidOfItems cx.now of) traits.old.items traits.new.items) }
+    ensures cause { IfErr result (λ s. s ≡ Stop.Memory) }
+{
+    let items = cx.associated_items(of);
+    for number in 0..items.len() {
+        add_traits_of_item(cx, items[number], traits)?;
+    }
+    Ok(())
+}
+
+/// Whether the trait is the lang item.
+fn is_item(cx: &Cx, item: LangItem, of: TraitId) -> bool
+    ensures is { result ≡ true → IsItem cx.now item of }
+    ensures isnt { result ≡ false → IsItem cx.now item of → ⊥ }
+{
+    match cx.lang_item(item) {
+        Some(other) => other == of,
         None => false,
     }
+}
+
+/// Adds the second lang item's trait, if the trait is the first one.
+fn add_asked(
+    cx: &Cx,
+    of: TraitId,
+    item: LangItem,
+    asked: LangItem,
+    traits: &mut Vec<TraitId>,
+) -> Result<(), Stop>
+    ensures adds { IfOk result (λ _. Adds (λ t. IsItem cx.now item of × IsItem cx.now asked t) traits.old.items traits.new.items) }
+    ensures cause { IfErr result (λ s. s ≡ Stop.Memory) }
+{
+    if !is_item(cx, item, of) {
+        return Ok(());
+    }
+    match cx.lang_item(asked) {
+        Some(next) => add_trait(traits, next),
+        None => Ok(()),
+    }
+}
+
+/// Adds the trait that the language's rule of the trait asks for: what is called has a sized output, and what isn't dropped is `Copy`.
+fn add_asked_by_language(cx: &Cx, of: TraitId, traits: &mut Vec<TraitId>) -> Result<(), Stop>
+    ensures adds { IfOk result (λ _. Adds (IsAskedByLanguage cx.now of) traits.old.items traits.new.items) }
+    ensures cause { IfErr result (λ s. s ≡ Stop.Memory) }
+{
+    add_asked(cx, of, LangItem::Fn, LangItem::Sized, traits)?;
+    add_asked(cx, of, LangItem::FnMut, LangItem::Sized, traits)?;
+    add_asked(cx, of, LangItem::FnOnce, LangItem::Sized, traits)?;
+    add_asked(
+        cx,
+        of,
+        LangItem::BikeshedGuaranteedNoDrop,
+        LangItem::Copy,
+        traits,
+    )
+}
+
+/// Adds the traits to which a goal of the trait may lead at once: those of its super clauses and its where clauses, of the bounds of its
+/// associated types and of the where clauses of its impls, and that for which the language's rule asks.
+fn add_next(cx: &Cx, of: TraitId, traits: &mut Vec<TraitId>) -> Result<(), Stop>
+    ensures adds { IfOk result (λ _. Adds (IsNext cx.now of) traits.old.items traits.new.items) }
+    ensures cause { IfErr result (λ s. s ≡ Stop.Memory) }
+{
+    add_traits(cx, cx.super_clauses(of), traits)?;
+    add_traits(cx, cx.trait_where_clauses(of), traits)?;
+    add_traits_of_items(cx, of, traits)?;
+    add_traits_of_impls(cx, of, traits)?;
+    add_asked_by_language(cx, of, traits)
 }
 
 /// Whether a goal of the trait may rest on an impl of an auto trait for a part of the types with a head. Such an impl takes the place of the
 /// fields' rule where it may serve, and of no other type with that head; so what it refuses may hold of an instance, and what holds beside it
 /// may not. Where the trait has the flag `by_head` it takes that place for each type with the head, so that neither is so.
 ///
-/// The traits are followed through supertraits and where clauses of impls; whatever leads to unsizing may. The only stop is `Stop::Memory`.
+/// The traits are followed through all that their rules ask for (`add_next`); whatever leads to unsizing may, by which a goal may lead to each auto
+/// trait that the target's bounds name. The only stop is `Stop::Memory`.
 pub(crate) fn may_rest_on_part(alloc: Global, cx: &Cx, of: TraitId) -> Result<bool, Stop>
     ensures may { IfOk result (λ b. b ≡ true → MayRestOnPart cx.now of) }
+    ensures never { IfOk result (λ b. b ≡ false → RestsOnPart cx.now of → ⊥) }
     ensures cause { IfErr result (λ s. s ≡ Stop.Memory) }
 {
     let mut traits = Vec::new(alloc);
     add_trait(&mut traits, of)?;
     for place in 0..usize::MAX {
         let Some(next) = traits.get(place).copied() else {
-            break;
+            return Ok(false);
         };
-        if is_unsizing(cx, next) || is_implemented_by_part(cx, next) {
+        if is_item(cx, LangItem::Unsize, next) || is_implemented_by_part(cx, next) {
             return Ok(true);
         }
         add_next(cx, next, &mut traits)?;
     }
-    Ok(false)
+    Err(Stop::Memory)
+}
+
+/// Whether a goal of the trait of which the clause speaks, if it speaks of one, may. The only stop is `Stop::Memory`.
+pub(crate) fn clause_may_rest_on_part(alloc: Global, cx: &Cx, clause: Clause) -> Result<bool, Stop>
+    requires { IsClause cx.now.trees clause }
+    ensures never { let c = cx.now in IfOk result (λ b. b ≡ false → (t : TraitId) → trait_spoken_of c (clause_tree c.trees clause).head ≡ Some t → RestsOnPart c t → ⊥) }
+    ensures cause { IfErr result (λ s. s ≡ Stop.Memory) }
+{
+    match trait_spoken_of(cx, clause) {
+        Some(of) => may_rest_on_part(alloc, cx, of),
+        None => Ok(false),
+    }
 }
 
 /// Whether a refusal of the reference's goal is one of each of its instances, as far as auto traits go: no variable stands in it, or it rests
@@ -191,6 +314,7 @@ pub(crate) fn refuses_instances(alloc: Global, cx: &Cx, of: TraitRef) -> Result<
     requires { IsArgs cx.now.trees of.args }
     ensures may { IfOk result (λ b. b ≡ false → MayRestOnPart cx.now of.def_id) }
     ensures variable { IfOk result (λ b. b ≡ false → HaveVariable (args_forest cx.now.trees of.args)) }
+    ensures instances { IfOk result (λ b. b ≡ true → HaveVariable (args_forest cx.now.trees of.args) → RestsOnPart cx.now of.def_id → ⊥) }
     ensures cause { IfErr result (λ s. s ≡ Stop.Memory) }
 {
     if !cx.has(of.args, Flag::TyInfer) && !cx.has(of.args, Flag::ConstInfer) {

@@ -16,7 +16,7 @@ ghost use Rattle.candidate_rounds.specs.Evaluators.Known.{state, table_of};
 ghost use Rattle.candidate_rounds.specs.Table.Running.{StaysBesideTable};
 ghost use Rattle.overlaps.specs.Asked.{AllStay, DecidesNothing, FirstStay, GoalStays, StaysHere, WasTried};
 ghost use Rattle.overlaps.specs.Stopping.{IsOverlapStop};
-ghost use Rattle.overlaps.specs.Refused.{goal_alone, RefusesHere, RefusesOne, RefusesPredicate, StaysBesideKnown};
+ghost use Rattle.overlaps.specs.Refused.{goal_alone, RefusesHere, RefusesInstances, RefusesOne, StaysBesideKnown};
 
 use crate::auto::refuses_instances;
 use crate::plain::{is_in_coherence, is_refused, is_resolved, is_without_aliases};
@@ -105,7 +105,7 @@ fn is_refused_in_coherence(
     requires pending { (state rounds.old).pending ≡ [] }
     requires coherence { (state rounds.old).mode ≡ mode.Coherence }
     ensures stays { StaysBesideKnown rounds.old rounds.new }
-    ensures refused { IfOk result (λ b. b ≡ true → RefusesPredicate rounds.old rounds.new predicate) }
+    ensures refused { IfOk result (λ b. b ≡ true → RefusesInstances rounds.old rounds.new predicate) }
     ensures asked { let r = rounds.old in IfOk result (λ b. b ≡ false → GoalStays r (state r) count (goal_alone r.context.trees predicate) (table_of r) (table_of rounds.new)) }
     ensures cause { IfErr result (IsOverlapStop rounds.old rounds.new) }
 {
@@ -137,7 +137,7 @@ pub(crate) fn is_predicate_refused(
     requires fit { ArgumentsFit rounds.old.context predicate.trait_ref }
     requires pending { (state rounds.old).pending ≡ [] }
     ensures stays { StaysBesideKnown rounds.old rounds.new }
-    ensures refused { IfOk result (λ b. b ≡ true → RefusesPredicate rounds.old rounds.new predicate) }
+    ensures refused { IfOk result (λ b. b ≡ true → RefusesInstances rounds.old rounds.new predicate) }
     ensures asked { let r = rounds.old in IfOk result (λ b. b ≡ false → GoalStays r (state r) count (goal_alone r.context.trees predicate) (table_of r) (table_of rounds.new)) }
     ensures cause { IfErr result (IsOverlapStop rounds.old rounds.new) }
 {

@@ -1,11 +1,12 @@
 //! Impls that are kept apart since a where clause of one of them is known not to hold.
 
-ghost use Rattle.std.specs.Prelude.{◌≡◌, ◌≢◌, ◌<◌, None, Some, true, false, map, IfErr, IfOk, IfSome, OnOk};
+ghost use Rattle.std.specs.Prelude.{◌≡◌, ◌≢◌, ◌<◌, None, Some, true, false, map, slice_get, IfErr, IfOk, IfSome, OnOk};
 ghost use Rattle.ir_trees.specs.Instantiation.Folding.{lacks_argument};
-ghost use Rattle.ir_trees.specs.Instantiation.Folds.{IsArg};
+ghost use Rattle.ir_trees.specs.Instantiation.Folds.{IsArg, arg_tree};
 ghost use Rattle.ir_trees.specs.Instantiation.Owned.{ClausesAreOwned};
 ghost use Rattle.ir_trees.specs.Syntax.Trees.{none, tree_holds};
 ghost use Rattle.ir_trees.specs.Syntax.Words.{ClauseListFits, IsArgs, IsClause, IsParamEnv, args_forest, clause_tree, env_forest};
+ghost use Rattle.candidate_eval.specs.Dynamic.Required.{each_of};
 ghost use Rattle.candidate_eval.specs.Interface.Evaluators.{arguments_accepted};
 ghost use Rattle.candidate_eval.specs.Interface.Shown.{Keeps, StopsSomehow, view};
 ghost use Rattle.candidate_rounds.specs.Evaluators.Interface.{fixed, judge_of};
@@ -13,7 +14,7 @@ ghost use Rattle.candidate_rounds.specs.Evaluators.Known.{state, table_of};
 ghost use Rattle.candidate_rounds.specs.Table.Normalizing.{rounds_shown};
 ghost use Rattle.candidate_rounds.specs.Table.Running.{StaysBesideTable};
 ghost use Rattle.overlaps.specs.Apart.{OfDeclared, aside};
-ghost use Rattle.overlaps.specs.Negated.{AreImplied, ClauseIsNegated, Equates, IsDenied, IsEnvironmentAt, IsKeptApart, IsNegatedBy, IsNegatedFrom, IsNegatedOfPair, IsNegatedUnder, OneIsDeniedHere, OneIsNegated, clauses_at, turned};
+ghost use Rattle.overlaps.specs.Negated.{AreImplied, ArePlugged, ClauseIsNegated, IsDenied, IsEnvironmentAt, IsKeptApart, IsNegatedBy, IsNegatedFrom, IsNegatedOfPair, IsNegatedUnder, MayBePlugged, OneIsDeniedHere, OneIsNegated, both_forests, clauses_at, turned};
 ghost use Rattle.overlaps.specs.Refused.{AreOpen, IsOpen, StaysBesideKnown, clause_at};
 ghost use Rattle.overlaps.specs.Stopping.{IsOverlapStop};
 
@@ -56,6 +57,8 @@ fn pair_at(cx: &Cx, first: Args, second: Args, place: usize) -> Option<(GenericA
     requires first { IsArgs cx.now.trees first }
     requires second { IsArgs cx.now.trees second }
     ensures sorts { IfSome result (λ p. IsArg cx.now.trees p.0 × IsArg cx.now.trees p.1) }
+    ensures one { let ts = cx.now.trees in IfSome result (λ p. slice_get (each_of (args_forest ts first)) place ≡ Some (arg_tree ts p.0)) }
+    ensures other { let ts = cx.now.trees in IfSome result (λ p. slice_get (each_of (args_forest ts second)) place ≡ Some (arg_tree ts p.1)) }
 {
     let ones = cx.args(first);
     let others = cx.args(second);
@@ -121,7 +124,7 @@ fn plug_one(
     requires local { IsArg rounds.old.context.trees local }
     requires placeholder { IsArg rounds.old.context.trees placeholder }
     ensures kept { Keeps rounds_shown rounds.old rounds.new }
-    ensures leads { OnOk result (Equates (judge_of (fixed rounds.old)) (state rounds.old) (state rounds.new)) }
+    ensures plugs { let r = rounds.old in let t = arg_tree r.context.trees in OnOk result (MayBePlugged (judge_of (fixed r)) (state r) (t local) (t placeholder) (state rounds.new)) }
     ensures cause { IfErr result (IsOverlapStop rounds.old rounds.new) }
 {
     if !can_be_equal(rounds, env, local, placeholder)? {
@@ -138,7 +141,7 @@ fn plug(rounds: &mut Rounds, env: ParamEnv, locals: Args, placeholders: Args) ->
     requires locals { IsArgs rounds.old.context.trees locals }
     requires placeholders { IsArgs rounds.old.context.trees placeholders }
     ensures kept { Keeps rounds_shown rounds.old rounds.new }
-    ensures leads { OnOk result (Equates (judge_of (fixed rounds.old)) (state rounds.old) (state rounds.new)) }
+    ensures plugs { let r = rounds.old in let f = args_forest r.context.trees in OnOk result (ArePlugged (judge_of (fixed r)) (state r) (f locals) (f placeholders) (state rounds.new)) }
     ensures cause { IfErr result (IsOverlapStop rounds.old rounds.new) }
 {
     let count = rounds.cx().args(locals).len();
@@ -357,7 +360,7 @@ fn negated_where_equal(
     requires first { IsArgs rounds.old.context.trees placeholders.0 }
     requires second { IsArgs rounds.old.context.trees placeholders.1 }
     ensures stays { StaysBesideKnown rounds.old rounds.new }
-    ensures negated { IfOk result (λ o. IfSome o (IsNegatedFrom rounds.old (state rounds.old) (table_of rounds.new) pair.now)) }
+    ensures negated { let r = rounds.old in IfOk result (λ o. IfSome o (IsNegatedFrom r (state r) (both_forests r.context.trees placeholders) (table_of rounds.new) pair.now)) }
     ensures cause { IfErr result (IsOverlapStop rounds.old rounds.new) }
 {
     plug(rounds, env, pair.first.locals, placeholders.0)?;
@@ -378,7 +381,7 @@ fn negated_of_pair(
     requires first { IsArgs rounds.old.context.trees placeholders.0 }
     requires second { IsArgs rounds.old.context.trees placeholders.1 }
     ensures stays { StaysBesideKnown rounds.old rounds.new }
-    ensures negated { IfOk result (λ o. IfSome o (IsNegatedOfPair rounds.old (table_of rounds.new) pair.now)) }
+    ensures negated { let r = rounds.old in IfOk result (λ o. IfSome o (IsNegatedOfPair r (both_forests r.context.trees placeholders) (table_of rounds.new) pair.now)) }
     ensures cause { IfErr result (IsOverlapStop rounds.old rounds.new) }
 {
     if have_aliases(rounds.cx(), pair) {

@@ -22,11 +22,11 @@ ghost use Rattle.rounds_judge.specs.Equations.Opening.{are_open};
 ghost use Rattle.rounds_judge.specs.Table.GoalTable.{may_be_asked};
 ghost use Rattle.rounds_judge.specs.Table.Keys.{key_at};
 ghost use Rattle.overlaps.specs.Apart.{OfDeclared, aside};
-ghost use Rattle.overlaps.specs.Refused.{AreOpen, IsOpen, RefusesPredicate, StaysBesideKnown};
+ghost use Rattle.overlaps.specs.Refused.{AreOpen, IsOpen, RefusesInstances, StaysBesideKnown};
 ghost use Rattle.overlaps.specs.Stopping.{IsOverlapStop};
 ghost use Rattle.overlaps.specs.Together.{AreLeftOfAll, CameOf, CannotBothHold, CannotHold, ClausesKeepApart, HasYes, ImplsCannotHold, IsGivenAs, IsObligation, IsProjectedAs, IsProjectionType, IsTried, SaysOfProjection, StandsIn, goals_of_opened, pendings_at};
 
-use crate::auto::may_rest_on_part;
+use crate::auto::{clause_may_rest_on_part, refuses_instances};
 use crate::clauses::is_predicate_refused;
 use crate::negation::make_one_equal;
 use crate::opening::{Opened, Pair, open_both};
@@ -47,7 +47,7 @@ use ir_context::decl::make::{Build, Make};
 use ir_trees::decl::contents::ImplId;
 use ir_trees::ir::heads::Flag;
 use ir_trees::ir::kinds::{
-    AliasKind, AliasTy, Args, Clause, ClauseKind, GenericArg, Goal, GoalSource, ParamEnv, TraitId,
+    AliasKind, AliasTy, Args, Clause, ClauseKind, GenericArg, Goal, GoalSource, ParamEnv,
     TraitPredicate, Ty, TyKind,
 };
 use ir_trees::ir::stop::Stop;
@@ -237,8 +237,8 @@ fn is_proved(
     }
 }
 
-/// What the projection is, where its arguments are those that it takes, and its trait's goal stands at what is known: it is normalised in so many
-/// rounds, if that goal holds by then. So no further round takes back what is answered.
+/// What the projection is, where its arguments are those that it takes, and its trait's goal stands at what is known, and says nothing of a type of which
+/// an instance is otherwise: it is normalised in that many rounds, if that goal holds by then. So no further round takes back what is answered.
 fn normal(
     alloc: Global,
     rounds: &mut Rounds,
@@ -270,6 +270,9 @@ fn normal(
         return Ok(None);
     }
     if !is_proved(alloc, rounds, env, predicate, count)? {
+        return Ok(None);
+    }
+    if !refuses_instances(alloc, rounds.cx(), predicate.trait_ref)? {
         return Ok(None);
     }
     rounds.normalize(alloc, env, alias, count)
@@ -375,7 +378,8 @@ fn make_term_equal(
     }
 }
 
-/// The goal alone is evaluated, and what it gives is known then; it is the answer whether it is refused.
+/// The goal alone is evaluated, unless it may rest on an impl for a part of the types with a head, and what it gives is known then; it is the answer
+/// whether it is refused.
 fn settle(
     alloc: Global,
     rounds: &mut Rounds,
@@ -389,6 +393,9 @@ fn settle(
     ensures tried { IfOk result (IsTried rounds.old rounds.new goal left.old.items left.new.items) }
     ensures cause { IfErr result (IsOverlapStop rounds.old rounds.new) }
 {
+    if clause_may_rest_on_part(alloc, rounds.cx(), goal.1.predicate)? {
+        return keep(left, goal);
+    }
     rounds.add_goal(goal.0, goal.1)?;
     match rounds.try_evaluate_added_goals() {
         Ok(_) => {
@@ -398,27 +405,6 @@ fn settle(
         Err(NoSolutionOrStop::NoSolution) => Ok(true),
         Err(NoSolutionOrStop::Stop(stop)) => Err(stop),
     }
-}
-
-/// A goal of a trait that has a Yes is settled, unless that may rest on an impl for a part of the types with a head.
-fn settle_sure(
-    alloc: Global,
-    rounds: &mut Rounds,
-    goal: Obligation,
-    of: TraitId,
-    left: &mut Vec<Obligation>,
-) -> Result<bool, Stop>
-    requires fit { IsObligation rounds.old.context.trees goal }
-    requires left { Each (IsObligation rounds.old.context.trees) left.old.items }
-    requires pending { (state rounds.old).pending ≡ [] }
-    ensures stays { StaysBesideKnown rounds.old rounds.new }
-    ensures tried { IfOk result (IsTried rounds.old rounds.new goal left.old.items left.new.items) }
-    ensures cause { IfErr result (IsOverlapStop rounds.old rounds.new) }
-{
-    if may_rest_on_part(alloc, rounds.cx(), of)? {
-        return keep(left, goal);
-    }
-    settle(alloc, rounds, goal, left)
 }
 
 /// Whether the goal is refused in so many rounds, for a reason that decides, in a probe, so that what is known stays.
@@ -436,7 +422,7 @@ fn is_refused_here(
     requires fit { ArgumentsFit rounds.old.context predicate.trait_ref }
     requires pending { (state rounds.old).pending ≡ [] }
     ensures stays { StaysBesideTable rounds.old rounds.new }
-    ensures refused { IfOk result (λ b. b ≡ true → RefusesPredicate rounds.old rounds.new predicate) }
+    ensures refused { IfOk result (λ b. b ≡ true → RefusesInstances rounds.old rounds.new predicate) }
     ensures cause { IfErr result (IsOverlapStop rounds.old rounds.new) }
 {
     let probe = rounds.begin_probe(ProbeKind::Kept)?;
@@ -483,7 +469,7 @@ fn try_trait(
     if !is_yes(&verdict_here(alloc, rounds, env, predicate)?) {
         return keep(left, goal);
     }
-    settle_sure(alloc, rounds, goal, predicate.trait_ref.def_id, left)
+    settle(alloc, rounds, goal, left)
 }
 
 /// A goal in which all values are put in is taken up: a projection in it gets its type, or what it says is asked.

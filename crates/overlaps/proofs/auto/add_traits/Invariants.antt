@@ -1,6 +1,10 @@
-use Rattle.overlaps.specs.PartTraits.{AddsOnly, IsSaid}
+use Rattle.std.proofs.Common.{◌≡◌, Some}
+use Rattle.ir_trees.specs.Syntax.Words.{clause_tree}
+use Rattle.overlaps.specs.PartTraits.{Adds, trait_spoken_of}
+use Rattle.overlaps.proofs.PartTraits.{Before}
 use Rattle.overlaps.proofs.auto.add_traits.Given as goal
 
--- of the traits that were added so far each stands in a clause
+-- the traits of the clauses so far were added
 abbrev pub invariant-loop-number : goal.invariant-loop-number
-invariant-loop-number l = AddsOnly (IsSaid l.fn.cx l.fn.clauses) l.fn.traits.items l.traits.items
+invariant-loop-number l =
+    let c = l.fn.cx in Adds (Before (λ x t. trait_spoken_of c (clause_tree c.trees x).head ≡ Some t) l.fn.clauses (record { 0 = 0 }) l.number) l.fn.traits.items l.traits.items

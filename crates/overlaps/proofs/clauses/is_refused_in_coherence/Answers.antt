@@ -11,10 +11,10 @@ use Rattle.ir_trees.proofs.Growth.Kept.{args-kept, grows-refl, grows-trans}
 use Rattle.candidate_eval.proofs.Interface.Accounts.{memory-somehow}
 use Rattle.candidate_assembly.proofs.Calls.Keeping.{trait-goal-kept}
 use Rattle.candidate_rounds.proofs.Table.Running.{stays-trans}
-use Rattle.overlaps.specs.PartTraits.{MayRestOnPart}
-use Rattle.overlaps.specs.Asked.{HaveVariable, has_instances, was_answered}
+use Rattle.overlaps.specs.PartTraits.{HaveVariable, MayRestOnPart, RestsOnPart}
+use Rattle.overlaps.specs.Asked.{has_instances, was_answered}
 use Rattle.overlaps.proofs.AskedClauses.{both-ok, predicate-run, predicate-undecided}
-use Rattle.overlaps.proofs.Refusing.{predicate-refused, whatever-ok}
+use Rattle.overlaps.proofs.Refusing.{instances-refused}
 use Rattle.overlaps.proofs.Staying.{known-beside, known-computed, known-then}
 use Rattle.overlaps.proofs.Stopping.{asking-stop, later-refl, later-table, passed-on, step-stop}
 use Rattle.overlaps.specs.Stopping.{IsOverlapStop, step_computing, step_key, step_run}
@@ -66,9 +66,15 @@ returns-clause-stays c = known-then (known-beside (stays-trans c.may_decide.ensu
 
 pub returns-clause-refused : goal.returns-clause-refused
 returns-clause-refused c =
-    whatever-ok c.refuses_instances.result _
-    (λ b t. predicate-refused c.args.rounds.now c.run.new.self c.is_refused.new.ecx c.args.env c.args.predicate (stays-trans c.may_decide.ensures.stays (stays-trans c.may_be_run.ensures.stays c.run.ensures.stays))
-    c.is_refused.ensures.kept.fixed_same c.requires.env c.requires.args c.requires.empty (c.in_ok-is_refused.ensures.refused c.if-not-branch-3.false))
+    let p = c.args.predicate.trait_ref in
+    let r = c.refuses_instances.result in
+    let last = c.is_refused.new.ecx.context in
+    let never : IfOk r (λ b. b ≡ true → HaveVariable (args_forest last.trees p.args) → RestsOnPart last p.def_id → ⊥)
+    = subst (λ (x : Context). IfOk r (λ b. b ≡ true → HaveVariable (args_forest x.trees p.args) → RestsOnPart x p.def_id → ⊥)) c.cx.ensures c.refuses_instances.ensures.instances in
+    IfOk-weaker r _ _
+    (λ b h yes. instances-refused c.args.rounds.now c.run.new.self c.is_refused.new.ecx c.args.env c.args.predicate (stays-trans c.may_decide.ensures.stays (stays-trans c.may_be_run.ensures.stays c.run.ensures.stays))
+    c.is_refused.ensures.kept.grows c.is_refused.ensures.kept.fixed_same c.requires.env c.requires.args c.requires.empty (c.in_ok-is_refused.ensures.refused c.if-not-branch-3.false) (h yes))
+    never
 
 pub returns-in_err-may_decide-clause-cause : goal.returns-in_err-may_decide-clause-cause
 returns-in_err-may_decide-clause-cause c = passed-on (IsOverlapStop c.args.rounds.now c.may_decide.new.rounds) c.from_residual.result c.in_err-may_decide.field-0.0 c.from_residual.ensures.1 (c.in_err-may_decide.ensures.cause)

@@ -71,7 +71,7 @@ returns-clause-negated c =
     let grows = grows-trans _ _ _ c.mk_param_env.ensures.made.kept c.make_equal.ensures.kept.grows in
     let equal = equated-as-made old mid c.in_ok-env.env p (Some (state now)) c.mk_param_env.ensures.made.kept c.mk_param_env.ensures.rest c.in_ok-env.ensures.made.tree c.requires.pair (c.in_ok-make_equal.ensures.equal c.if-not-branch.false) in
     let same = c.make_equal.ensures.kept.fixed_same ∙ ap (λ (x : Rest). x.fixed) c.mk_param_env.ensures.rest in
-    IfOk-weaker c.negated_where_equal.result _ _ (some-weaker (negated-of-pair old now p (table_of c.negated_where_equal.new.rounds) grows same c.requires.pair equal)) c.negated_where_equal.ensures.negated
+    IfOk-weaker c.negated_where_equal.result _ _ (some-weaker (negated-of-pair old now p c.args.placeholders (table_of c.negated_where_equal.new.rounds) grows same c.requires.pair c.requires.first c.requires.second equal)) c.negated_where_equal.ensures.negated
 
 pub returns-clause-cause : goal.returns-clause-cause
 returns-clause-cause c =

@@ -45,8 +45,8 @@ returns-clause-stays c = known-then (known-then (known-kept c.plug.ensures.kept)
 pub returns-clause-negated : goal.returns-clause-negated
 returns-clause-negated c =
     IfOk-weaker c.negated_under.result _ _
-    (some-weaker (negated-from c.args.rounds.now c.plug.new.rounds c.plug-2.new.rounds c.args.pair.now (table_of c.negated_under.new.rounds) c.plug.ensures.kept.grows c.plug-2.ensures.kept.grows c.plug.ensures.kept.fixed_same
-    c.plug-2.ensures.kept.fixed_same c.in_ok-plug.ensures.leads c.in_ok-plug-2.ensures.leads c.requires.pair))
+    (some-weaker (negated-from c.args.rounds.now c.plug.new.rounds c.plug-2.new.rounds c.args.pair.now c.args.placeholders (table_of c.negated_under.new.rounds) c.plug.ensures.kept.grows c.plug-2.ensures.kept.grows c.plug.ensures.kept.fixed_same
+    c.in_ok-plug.ensures.plugs c.in_ok-plug-2.ensures.plugs c.requires.pair c.requires.second))
     c.negated_under.ensures.negated
 
 pub returns-clause-cause : goal.returns-clause-cause

@@ -1,13 +1,16 @@
-use Rattle.std.proofs.Common.{subst, sym, ◌∙◌}
+use Rattle.std.proofs.Common.{◌≡◌, Some, slice_get, subst, sym, ◌∙◌}
 use Rattle.ir_trees.specs.Declarations.Context.{Context}
-use Rattle.ir_trees.specs.Syntax.Words.{IsArgs}
+use Rattle.ir_trees.specs.Instantiation.Folds.{arg_tree}
+use Rattle.ir_trees.specs.Syntax.Trees.{Forest, Tree}
+use Rattle.ir_trees.specs.Syntax.Words.{IsArgs, args_forest}
 use Rattle.ir_trees.proofs.Growth.Kept.{args-kept}
 use Rattle.candidate_eval.proofs.Dynamic.Objects.{env-kept}
 use Rattle.candidate_eval.proofs.Interface.Probing.{then}
-use Rattle.candidate_rounds.specs.Evaluators.Interface.{Fixed, judge_of}
+use Rattle.candidate_eval.specs.Dynamic.Required.{each_of}
+use Rattle.candidate_rounds.specs.Evaluators.Interface.{Fixed, fixed, judge_of}
 use Rattle.candidate_rounds.specs.Evaluators.Known.{state}
-use Rattle.overlaps.specs.Negated.{Equates, no_more}
-use Rattle.overlaps.proofs.Negated.{equates-then}
+use Rattle.overlaps.specs.Negated.{MayBePlugged, no_more}
+use Rattle.overlaps.proofs.Negated.{plugged-next}
 use Rattle.overlaps.proofs.Staying.{keeps-refl}
 use Rattle.overlaps.proofs.Stopping.{later-kept, passed-on, stop-later}
 use Rattle.overlaps.specs.Stopping.{IsOverlapStop}
@@ -36,7 +39,20 @@ returns-in_err-plug_one-clause-cause c = passed-on (IsOverlapStop c.args.rounds.
 
 pub loop-place-preserved : goal.loop-place-preserved
 loop-place-preserved c =
-    let so = c.loop-place.invariant in (
+    let old = c.args.rounds.now in
+    let here = c.loop-place.rounds in
+    let so = c.loop-place.invariant in
+    let x : Context → Tree = λ d. arg_tree d.trees c.in-Some.local in
+    let name : Context → Tree = λ d. arg_tree d.trees c.in-Some.placeholder in
+    let seen = c.cx-in-loop-place.ensures in
+    let l = (args-kept old.context here.context c.args.locals so.0.grows c.requires.locals).1 in
+    let p = (args-kept old.context here.context c.args.placeholders so.0.grows c.requires.placeholders).1 in (
       then so.0 c.plug_one.ensures.kept,
-      equates-then so.1 (subst (λ (x : Fixed). Equates (judge_of x) (state c.loop-place.rounds) (state c.plug_one.new.rounds)) so.0.fixed_same c.in_ok-plug_one.ensures.leads),
+      plugged-next (judge_of (fixed old)) (state old) (state here) (state c.plug_one.new.rounds) (args_forest old.context.trees c.args.locals) (args_forest old.context.trees c.args.placeholders) c.loop-place.place
+          (x here.context) (name here.context) so.1
+          (subst (λ (f : Forest). slice_get (each_of f) c.loop-place.place ≡ Some (x here.context)) l
+          (subst (λ (d : Context). slice_get (each_of (args_forest d.trees c.args.locals)) c.loop-place.place ≡ Some (x d)) seen c.in-Some.ensures.one))
+          (subst (λ (f : Forest). slice_get (each_of f) c.loop-place.place ≡ Some (name here.context)) p
+          (subst (λ (d : Context). slice_get (each_of (args_forest d.trees c.args.placeholders)) c.loop-place.place ≡ Some (name d)) seen c.in-Some.ensures.other))
+          (subst (λ (z : Fixed). MayBePlugged (judge_of z) (state here) (x here.context) (name here.context) (state c.plug_one.new.rounds)) so.0.fixed_same c.in_ok-plug_one.ensures.plugs),
     )

@@ -1,17 +1,16 @@
-use Rattle.std.proofs.Common.{None, Some, ◌∙◌}
+use Rattle.std.proofs.Common.{None, Some, inl, ◌∙◌}
 use Rattle.ir_folds.proofs.Hierarchy.Implying.{arg-kept}
 use Rattle.candidate_eval.proofs.Dynamic.Objects.{env-kept}
 use Rattle.candidate_eval.proofs.Interface.Probing.{then}
 use Rattle.candidate_rounds.specs.Evaluators.Interface.{fixed, judge_of}
 use Rattle.candidate_rounds.specs.Evaluators.Known.{state}
-use Rattle.overlaps.specs.Negated.{no_more}
-use Rattle.overlaps.proofs.Negated.{equates-at, equation-before, led-on}
+use Rattle.overlaps.proofs.Negated.{equation-before, led-on}
 use Rattle.overlaps.proofs.Stopping.{asking-stop, later-kept, passed-on}
 use Rattle.overlaps.specs.Stopping.{IsOverlapStop}
 use Rattle.overlaps.proofs.negation.plug_one.Goals as goal
 
-pub returns-then-not-branch-clause-leads : goal.returns-then-not-branch-clause-leads
-returns-then-not-branch-clause-leads c = equates-at c.can_be_equal.ensures.same
+pub returns-then-not-branch-clause-plugs : goal.returns-then-not-branch-clause-plugs
+returns-then-not-branch-clause-plugs c = inl c.can_be_equal.ensures.same
 
 pub make_one_equal-requires-clause-env : goal.make_one_equal-requires-clause-env
 make_one_equal-requires-clause-env c = (env-kept _ _ c.args.env c.can_be_equal.ensures.kept.grows c.requires.env).0
@@ -31,8 +30,8 @@ returns-in_err-make_one_equal-clause-cause c = passed-on (IsOverlapStop c.args.r
 pub returns-clause-kept : goal.returns-clause-kept
 returns-clause-kept c = then c.can_be_equal.ensures.kept c.make_one_equal.ensures.kept
 
-pub returns-clause-leads : goal.returns-clause-leads
-returns-clause-leads c =
+pub returns-clause-plugs : goal.returns-clause-plugs
+returns-clause-plugs c =
     let old = c.args.rounds.now in
     let mid = c.can_be_equal.new.rounds in
     let new = c.make_one_equal.new.ecx in

@@ -3,18 +3,20 @@ use Rattle.ir_trees.specs.declared.ir.kinds.TraitPredicate.{TraitPredicate}
 use Rattle.ir_trees.specs.declared.ir.kinds.TyKind.TheVariants as K
 use Rattle.ir_trees.specs.Declarations.Context.{Context, world}
 use Rattle.ir_trees.specs.Declarations.References.{Takes}
-use Rattle.ir_trees.specs.Syntax.Words.{IsArgs, kind_tree}
+use Rattle.ir_trees.specs.Syntax.Words.{IsArgs, args_forest, kind_tree}
 use Rattle.ir_trees.proofs.Growth.Kept.{args-kept}
 use Rattle.candidate_eval.proofs.Dynamic.Objects.{env-kept}
+use Rattle.candidate_eval.proofs.Interface.Accounts.{memory-somehow}
 use Rattle.candidate_assembly.specs.Goals.TraitGoals.{trait_goal}
 use Rattle.candidate_assembly.proofs.Calls.Keeping.{trait-goal-kept}
 use Rattle.candidate_rounds.specs.Evaluators.Known.{table_of}
 use Rattle.candidate_rounds.specs.Table.Normalizing.{trait_predicate}
 use Rattle.candidate_rounds.proofs.Table.Running.{stays-refl, stays-trans}
-use Rattle.overlaps.proofs.JointNormals.{alias-args, came-of, normalizing-stop, projection-later, still-projection, trait-key-later}
-use Rattle.overlaps.proofs.Stopping.{later-table, passed-on, step-stop, stop-later}
+use Rattle.overlaps.proofs.JointNormals.{alias-args, came-of, normalizing-stop, of-projection, projection-later, still-projection, trait-key-later}
+use Rattle.overlaps.proofs.Stopping.{asking-stop, later-table, passed-on, step-stop, stop-later}
 use Rattle.rounds_judge.specs.Table.GoalTable.{may_be_asked}
 use Rattle.rounds_judge.specs.Table.Keys.{Key}
+use Rattle.overlaps.specs.PartTraits.{HaveVariable, RestsOnPart}
 use Rattle.overlaps.specs.Stopping.{IsOverlapStop, step_key}
 use Rattle.overlaps.specs.Together.{HasYes}
 use Rattle.overlaps.proofs.together.normal.Goals as goal
@@ -55,6 +57,28 @@ returns-in_err-is_proved-clause-cause c =
 
 pub returns-then-not-branch-2-clause-stays : goal.returns-then-not-branch-2-clause-stays
 returns-then-not-branch-2-clause-stays c = stays-trans (stays-trans c.verdict_here.ensures.stays c.may_be_run.ensures.stays) c.is_proved.ensures.stays
+
+pub refuses_instances-requires : goal.refuses_instances-requires
+refuses_instances-requires c =
+    let old = c.args.rounds.now.context in
+    let s = c.is_proved.new.rounds.context in
+    let alias = c.args.alias in
+    let is : c.trait_predicate-predicate.result ≡ trait_predicate old alias = c.trait_predicate-predicate.ensures ∙ ap (λ (y : Context). trait_predicate y alias) c.cx-2.ensures in
+    let stays = stays-trans (stays-trans c.verdict_here.ensures.stays c.may_be_run.ensures.stays) c.is_proved.ensures.stays in
+    let there = (args-kept old s alias.args stays.grows (alias-args old.trees alias c.requires.alias)).0 in
+    subst (λ (y : Context). IsArgs y.trees c.trait_predicate-predicate.result.trait_ref.args) (sym c.cx-3.ensures) (subst (λ (q : TraitPredicate). IsArgs s.trees q.trait_ref.args) (sym is) there)
+
+pub returns-in_err-refuses_instances-clause-stays : goal.returns-in_err-refuses_instances-clause-stays
+returns-in_err-refuses_instances-clause-stays c = stays-trans (stays-trans c.verdict_here.ensures.stays c.may_be_run.ensures.stays) c.is_proved.ensures.stays
+
+pub returns-in_err-refuses_instances-clause-cause : goal.returns-in_err-refuses_instances-clause-cause
+returns-in_err-refuses_instances-clause-cause c =
+    let later = later-table (stays-trans (stays-trans c.verdict_here.ensures.stays c.may_be_run.ensures.stays) c.is_proved.ensures.stays) in
+    passed-on (IsOverlapStop c.args.rounds.now c.is_proved.new.rounds) c.from_residual-in_err-refuses_instances.result c.in_err-refuses_instances.field-0.0 c.from_residual-in_err-refuses_instances.ensures.1
+    (asking-stop later (memory-somehow c.in_err-refuses_instances.ensures.cause))
+
+pub returns-then-not-branch-3-clause-stays : goal.returns-then-not-branch-3-clause-stays
+returns-then-not-branch-3-clause-stays c = stays-trans (stays-trans c.verdict_here.ensures.stays c.may_be_run.ensures.stays) c.is_proved.ensures.stays
 
 pub normalize-requires-clause-projection : goal.normalize-requires-clause-projection
 normalize-requires-clause-projection c =
@@ -110,8 +134,10 @@ returns-clause-comes c =
     let is : p ≡ trait_predicate old.context alias = c.trait_predicate-predicate.ensures ∙ ap (λ (y : Context). trait_predicate y alias) c.cx-2.ensures in
     let stays = stays-trans (stays-trans c.verdict_here.ensures.stays c.may_be_run.ensures.stays) c.is_proved.ensures.stays in
     let key = trait-key-later r s old.context c.args.env alias p c.is_proved.ensures.stays stays.grows is c.may_be_run.ensures.goal in
+    let never
+    = subst (λ (y : Context). HaveVariable (args_forest y.trees p.trait_ref.args) → RestsOnPart y p.trait_ref.def_id → ⊥) c.cx-3.ensures (c.in_ok-refuses_instances.ensures.instances c.if-not-branch-3.false) in
     came-of old s c.normalize.new.self c.args.env alias c.args.count c.normalize.result stays
-    (subst (HasYes (table_of s)) key (c.in_ok-is_proved.ensures.yes c.if-not-branch-2.false)) c.normalize.ensures.normalized
+    (subst (HasYes (table_of s)) key (c.in_ok-is_proved.ensures.yes c.if-not-branch-2.false)) (of-projection old.context s.context c.args.env alias p stays.grows is never) c.normalize.ensures.normalized
 
 pub returns-clause-cause : goal.returns-clause-cause
 returns-clause-cause c =

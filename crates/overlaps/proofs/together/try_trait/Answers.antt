@@ -121,8 +121,8 @@ returns-then-not-is_yes-2-clause-cause c =
     let all = stays-trans joined c.verdict_here-2.ensures.stays in
     so-err c.keep-then-not-is_yes-2.result (λ s k. asking-stop (later-table all) (memory-somehow k)) c.keep-then-not-is_yes-2.ensures.cause
 
-pub settle_sure-requires-clause-fit : goal.settle_sure-requires-clause-fit
-settle_sure-requires-clause-fit c =
+pub settle-requires-clause-fit : goal.settle-requires-clause-fit
+settle-requires-clause-fit c =
     let first = c.verdict_here.ensures.stays in
     let joined : StaysBesideTable c.args.rounds.now c.else-not-is_yes.rounds
     = elim c.else-not-is_yes.branch [
@@ -132,8 +132,8 @@ settle_sure-requires-clause-fit c =
     let all = stays-trans joined c.verdict_here-2.ensures.stays in
     goal-kept _ _ c.args.goal.1 all.grows c.requires.fit
 
-pub settle_sure-requires-clause-left : goal.settle_sure-requires-clause-left
-settle_sure-requires-clause-left c =
+pub settle-requires-clause-left : goal.settle-requires-clause-left
+settle-requires-clause-left c =
     let first = c.verdict_here.ensures.stays in
     let joined : StaysBesideTable c.args.rounds.now c.else-not-is_yes.rounds
     = elim c.else-not-is_yes.branch [
@@ -152,7 +152,7 @@ returns-clause-stays c =
       | else-not-is_yes-via-else-not-is_yes w ↦ subst (StaysBesideTable c.args.rounds.now) (sym w.rounds-is) first
     ] in
     let all = stays-trans joined c.verdict_here-2.ensures.stays in
-    known-then (known-beside all) c.settle_sure.ensures.stays
+    known-then (known-beside all) c.settle.ensures.stays
 
 pub returns-clause-tried : goal.returns-clause-tried
 returns-clause-tried c =
@@ -163,8 +163,8 @@ returns-clause-tried c =
       | else-not-is_yes-via-else-not-is_yes w ↦ subst (StaysBesideTable c.args.rounds.now) (sym w.rounds-is) first
     ] in
     let all = stays-trans joined c.verdict_here-2.ensures.stays in
-    IfOk-weaker c.settle_sure.result _ _
-    (λ b k. tried-later c.args.rounds.now c.verdict_here-2.new.rounds c.settle_sure.new.rounds c.args.goal c.args.left.now.items c.settle_sure.new.left.items b (later-table all) all.state_same c.requires.fit c.requires.left k) c.settle_sure.ensures.tried
+    IfOk-weaker c.settle.result _ _
+    (λ b k. tried-later c.args.rounds.now c.verdict_here-2.new.rounds c.settle.new.rounds c.args.goal c.args.left.now.items c.settle.new.left.items b (later-table all) all.state_same c.requires.fit c.requires.left k) c.settle.ensures.tried
 
 pub returns-clause-cause : goal.returns-clause-cause
 returns-clause-cause c =
@@ -175,4 +175,4 @@ returns-clause-cause c =
       | else-not-is_yes-via-else-not-is_yes w ↦ subst (StaysBesideTable c.args.rounds.now) (sym w.rounds-is) first
     ] in
     let all = stays-trans joined c.verdict_here-2.ensures.stays in
-    so-err c.settle_sure.result (λ s k. stop-later (later-table all) k) c.settle_sure.ensures.cause
+    so-err c.settle.result (λ s k. stop-later (later-table all) k) c.settle.ensures.cause

@@ -1,0 +1,7 @@
+use Rattle.overlaps.specs.PartTraits.{Adds, IsSaid, impls_at, wheres_at}
+use Rattle.overlaps.proofs.PartTraits.{Before}
+use Rattle.overlaps.proofs.auto.add_traits_of_impls.Given as goal
+
+-- the traits of the impls so far were added
+abbrev pub invariant-loop-number : goal.invariant-loop-number
+invariant-loop-number l = let c = l.fn.cx in Adds (Before (λ i. IsSaid c (wheres_at c i)) (impls_at c l.fn.of) (record { 0 = 0 }) l.number) l.fn.traits.items l.traits.items
