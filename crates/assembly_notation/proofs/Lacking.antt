@@ -2,7 +2,7 @@
 use Rattle.std.proofs.Common.{◌≡◌, ℕ, List, [], ◌∷◌, ◌++◌, refl, sym, ◌∙◌, ap, Result, Ok, Err}
 use Rattle.std.specs.Prelude.{map, IfOk, Bool, true, false, ◌||◌}
 use Rattle.std.proofs.lemmas.List.{map-append}
-use Rattle.std.proofs.lemmas.List.Elements.{All-head, All-tail}
+use Rattle.std.proofs.lemmas.List.Elements.{All-head, All-tail, All-weaker}
 use Rattle.ir_trees.specs.declared.ir.kinds.Args.{Args}
 use Rattle.ir_trees.specs.declared.ir.kinds.Preds.{Preds}
 use Rattle.ir_trees.specs.declared.ir.kinds.Region.{Region}
@@ -35,6 +35,7 @@ use Rattle.ir_trees.specs.Syntax.Nodes.{tree_at, kind_at, trees_at, rows, any_ho
 use Rattle.ir_trees.specs.Declarations.Context.{Context, Grows}
 use Rattle.ir_trees.specs.Syntax.Words.{IsArgs, IsPreds, ListFits, BoundsFit, PredFits, kind_tree, const_tree, const_kind_tree, pred_kind_tree, region_kind_tree, region_tree, vars_tree, binder_tree, var_kind_tree, ty_tree, args_forest, preds_forest, list_forest}
 use Rattle.ir_trees.specs.Instantiation.Folds.{IsArg}
+use Rattle.ir_trees.proofs.Growth.Made.{PredFits-grows}
 use Rattle.ir_trees.proofs.Syntax.Lists.{all_there, tree_at-append, below_kind, kind_of-tree_at, trees_at-append, Below-there, node_tree-append}
 use Rattle.ir_trees.specs.Syntax.Trees.{there}
 use Rattle.ir_trees.proofs.Syntax.Splits.{list-head, rows-holds}
@@ -193,6 +194,13 @@ bounds-kept a b (x ∷ xs) g f =
     let e = bound-kept a b x g (All-head (PredFits a.trees) x xs f) in
     let h = bounds-kept a b xs g (All-tail (PredFits a.trees) x xs f) in
     cc
+
+-- bounds keep that they fit, and that they have none
+pub bounds-fit-grows : (a b : Context) (xs : List (Binder ExistentialPredicate)) → Grows a b → BoundsFit a.trees xs → BoundsFit b.trees xs
+bounds-fit-grows a b xs g f = All-weaker (PredFits a.trees) (PredFits b.trees) (λ y h. PredFits-grows a b y g h) xs f
+
+pub bounds-lack-grows : (a b : Context) (xs : List (Binder ExistentialPredicate)) → Grows a b → BoundsFit a.trees xs → BoundsLackParam a.trees xs → BoundsLackParam b.trees xs
+bounds-lack-grows a b xs g f l = ap (λ (ts : List Tree). holds is_param (rows ts)) (bounds-kept a b xs g f) ∙ l
 
 -- bounds, with one more
 pub bounds-lack-one : (a b : Context) (xs : List (Binder ExistentialPredicate)) (x : Binder ExistentialPredicate)

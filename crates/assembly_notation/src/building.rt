@@ -270,10 +270,9 @@ pub fn dyn_type<'a, M: Maker>(
     maker.ty(TyKind::Dynamic(preds, region), word)
 }
 
-/// The bound by the auto trait, under a binder of so many regions.
+/// The bound by the auto trait. It binds nothing.
 pub fn auto_bound<'a, M: Maker>(
     maker: &mut M,
-    bound: u16,
     id: TraitId,
 ) -> Result<Binder<ExistentialPredicate>, Fault<'a>>
     ensures grows { Grows (M.context maker.old) (M.context maker.new) }
@@ -281,14 +280,14 @@ pub fn auto_bound<'a, M: Maker>(
     ensures no_param { IfOk result (λ bound. BoundLacks M.is_strict (M.context maker.new).trees bound) }
     ensures kind { IfOk result (λ bound. names_trait bound.value ≡ false) }
 {
-    let vars = binder(maker, bound)?;
+    let vars = binder(maker, 0)?;
     Ok(Binder {
         vars,
         value: ExistentialPredicate::AutoTrait(id),
     })
 }
 
-/// The bound by the trait with these arguments, under such a binder.
+/// The bound by the trait with these arguments, under a binder of so many regions.
 pub fn trait_bound<'a, M: Maker>(
     maker: &mut M,
     bound: u16,

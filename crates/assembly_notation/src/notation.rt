@@ -96,12 +96,30 @@ impl Arguments {
 pub struct Binders {
     /// One more than that, a byte each, the innermost in the lowest one.
     counts: u64,
+    /// Whether the words are passed over, to be read in another order.
+    is_passed: bool,
 }
 
 impl Binders {
     /// No binder.
     pub fn none() -> Binders {
-        Binders { counts: 0 }
+        Binders {
+            counts: 0,
+            is_passed: false,
+        }
+    }
+
+    /// The same, where the words are passed over.
+    pub fn passed(self) -> Binders {
+        Binders {
+            is_passed: true,
+            ..self
+        }
+    }
+
+    /// Whether the words are passed over.
+    pub fn is_passed(self) -> bool {
+        self.is_passed
     }
 
     /// One more inside of them. Of more than eight the outermost are forgotten, so that no word names what they bind.
@@ -109,7 +127,13 @@ impl Binders {
         let count = u64::from(count.min(MAX_BOUND));
         Binders {
             counts: self.counts.wrapping_shl(8) | (count + 1),
+            ..self
         }
+    }
+
+    /// How many regions the innermost of them binds.
+    pub fn innermost(self) -> u16 {
+        (self.counts & 255).saturating_sub(1) as u16
     }
 
     /// Whether one of them binds the variable.

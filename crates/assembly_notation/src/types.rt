@@ -14,6 +14,7 @@ ghost use Rattle.ir_trees.specs.Syntax.Words.{args_forest, pred_kind_tree, preds
 ghost use Rattle.assembly_notation.specs.Spelling.{AddsEach, AddsNamed, AddsSpaces, AddsType, AddsWords, binder_words, first_spaces, qualifier_words, region_words, spaces, tree_words, words};
 ghost use Rattle.assembly_notation.specs.Params.{Lacks, LacksParam, ListLacks, BoundLacks, BoundsLack};
 
+use crate::bounds::{Begun, is_among, place_of};
 use crate::building::{
     Constructor, FnForm, auto_bound, construct, dyn_type, fn_pointer, leaf_type, make_constant,
     pointer_to, projection_bound, projection_clause, reference, trait_bound, trait_clause,
@@ -25,6 +26,7 @@ use crate::names::{Item, NamedTrait, Names, Parameters};
 use crate::notation::{
     Arguments, Binders, Head, Inputs, Qualifier, bound_by, constant_in, head_of, region_in, word_of,
 };
+use crate::numbering::Numbering;
 use crate::words::Words;
 use ir_context::decl::context::Cx;
 use ir_trees::ir::kinds::{
@@ -51,6 +53,7 @@ pub struct Scope<'a, M> {
     pub alloc: Global,
     pub names: Names<'a>,
     pub maker: M,
+    pub numbering: Numbering,
 }
 
 /// What a bound's name says of it, with what arguments follow.
@@ -127,11 +130,13 @@ impl<'n, M: Maker> Scope<'n, M> {
         ensures alias { IfOk result (IsNoted (M.noted self.new.maker) (M.context self.new.maker).trees) }
     {
         let binders = binders.under(form.bound);
+        self.numbering.enter()?;
         let list = self.read_args(words, Arguments::types(inputs.count), binders, depth)?;
         let output = self.read_type(words, binders, depth)?;
+        let bound = self.numbering.leave(binders);
         fn_pointer(
             &mut self.maker,
-            form,
+            form.with(Qualifier::For(bound)),
             inputs.is_variadic,
             list,
             output,
@@ -162,7 +167,10 @@ impl<'n, M: Maker> Scope<'n, M> {
         ensures no_param { IfOk result (λ r. LacksParam (M.context self.new.maker).trees r.0) }
     {
         match region_in(word, binders)? {
-            Some(kind) => Ok(self.maker.mk_region(kind)?),
+            Some(kind) => {
+                let kind = self.numbering.number(kind, binders);
+                Ok(self.maker.mk_region(kind)?)
+            }
             None => Err(Fault::NoRegion(word)),
         }
     }
@@ -217,7 +225,7 @@ impl<'n, M: Maker> Scope<'n, M> {
         }
     }
 
-    /// The next so many bounds of a line, of which at most one is a principal.
+    /// The next so many bounds of a line, of which at most one is a principal: each once and in order. Where words are passed over, none.
     #[cycle(types)]
     fn read_bounds<'a>(
         &mut self,
@@ -231,14 +239,48 @@ impl<'n, M: Maker> Scope<'n, M> {
         ensures principal { IfOk result (λ list. AtMostOnePrincipal list.items) }
         ensures no_param { IfOk result (λ list. BoundsLack M.is_strict (M.context self.new.maker).trees list.items) }
     {
+        let begun = self.pass_bounds(words, count, binders.passed(), depth)?;
         let mut list = Vec::new(self.alloc);
+        if binders.is_passed() {
+            return Ok(list);
+        }
         let mut has_principal = false;
-        for _ in 0..count {
-            let bound = self.read_bound(words, has_principal, binders, depth)?;
+        for begin in begun {
+            let mut words = begin.words;
+            let bound = self.read_bound(&mut words, has_principal, binders, depth)?;
+            if is_among(list.as_slice(), bound) {
+                continue;
+            }
             has_principal |= is_principal(bound);
             list.push(bound)?;
         }
         Ok(list)
+    }
+
+    /// Passes over the next so many bounds of a line: where each begins, in the order in which they stand in a type.
+    #[cycle(types)]
+    fn pass_bounds<'a>(
+        &mut self,
+        words: &mut Words<'a>,
+        count: u16,
+        binders: Binders,
+        depth: u16,
+    ) -> Result<Vec<Begun<'a>>, Fault<'a>>
+        ensures { Grows (M.context self.old.maker) (M.context self.new.maker) }
+    {
+        let mut begun = Vec::new(self.alloc);
+        let mut has_principal = false;
+        for before in 0..count {
+            let begin = *words;
+            let bound = self.read_bound(words, has_principal, binders, depth)?;
+            has_principal |= is_principal(bound);
+            begun.push(Begun {
+                place: place_of(bound, before),
+                words: begin,
+            })?;
+        }
+        begun.sort_unstable_by_key(|begin| begin.place);
+        Ok(begun)
     }
 
     /// The next bound of a line. `Fault::TwoPrincipals` comes at a principal after another.
@@ -258,13 +300,15 @@ impl<'n, M: Maker> Scope<'n, M> {
         let (bound, name) = next_bound(words)?;
         let binders = binders.under(bound);
         match self.bound_head(name, has_principal)? {
-            BoundHead::AutoTrait(id) => auto_bound(&mut self.maker, bound, id),
+            BoundHead::AutoTrait(id) => auto_bound(&mut self.maker, id),
             BoundHead::Trait(id, parameters) => {
                 let arguments = Arguments {
                     has_self: false,
                     parameters,
                 };
+                self.numbering.enter()?;
                 let list = self.read_args(words, arguments, binders, depth)?;
+                let bound = self.numbering.leave(binders);
                 trait_bound(&mut self.maker, bound, id, list)
             }
             BoundHead::Projection(id, parameters) => {
@@ -272,8 +316,10 @@ impl<'n, M: Maker> Scope<'n, M> {
                     has_self: false,
                     parameters,
                 };
+                self.numbering.enter()?;
                 let list = self.read_args(words, arguments, binders, depth)?;
                 let term = self.read_type(words, binders, depth)?;
+                let bound = self.numbering.leave(binders);
                 projection_bound(&mut self.maker, bound, id, list, term)
             }
         }
@@ -427,7 +473,9 @@ impl<'a> Scope<'a, Draft> {
         let binders = Binders::none().under(bound);
         match self.names.item(word)? {
             Item::Trait(found) => {
+                self.numbering.enter()?;
                 let trait_ref = self.read_arguments(words, found, binders, word)?;
+                let bound = self.numbering.leave(binders);
                 trait_clause(&mut self.maker, bound, trait_ref)
             }
             Item::Assoc(id, parameters) => {
@@ -435,8 +483,10 @@ impl<'a> Scope<'a, Draft> {
                     has_self: true,
                     parameters,
                 };
+                self.numbering.enter()?;
                 let list = self.read_args(words, arguments, binders, MAX_DEPTH)?;
                 let term = self.read_type(words, binders, MAX_DEPTH)?;
+                let bound = self.numbering.leave(binders);
                 projection_clause(&mut self.maker, bound, id, list, term)
             }
             _ => Err(Fault::UnknownName(word)),

@@ -30,6 +30,7 @@ use assembly_notation::faults::Fault;
 use assembly_notation::given::Given;
 use assembly_notation::names::Names;
 use assembly_notation::notation::Binders;
+use assembly_notation::numbering::Numbering;
 use assembly_notation::types::{MAX_DEPTH, Scope};
 use assembly_notation::words::Words;
 use candidate_eval::coherence::{
@@ -125,6 +126,7 @@ impl<'a> Rest<'a> {
             alloc,
             names,
             maker,
+            numbering: Numbering::new(alloc),
         };
         Asking {
             scope,
@@ -203,6 +205,7 @@ impl<'a> Asking<'a> {
             alloc,
             names,
             maker,
+            ..
         } = scope;
         let rest = Rest {
             alloc,

@@ -9,6 +9,7 @@ use assembly_notation::given::Given;
 use assembly_notation::making::Draft;
 use assembly_notation::names::{Item, NamedTrait, Names, Origin, Parameters};
 use assembly_notation::notation::Binders;
+use assembly_notation::numbering::Numbering;
 use assembly_notation::reading::{
     CRATES, Content, ContentKind, Definition, DefinitionKind, New, Owner, read_assoc,
 };
@@ -142,6 +143,7 @@ impl<'a> Declaring<'a> {
                 alloc,
                 names: Names::new(alloc)?,
                 maker,
+                numbering: Numbering::new(alloc),
             },
             kinds: ParameterKinds {
                 types: Vec::new(alloc),
@@ -190,6 +192,7 @@ impl<'a> Declaring<'a> {
             alloc,
             names,
             maker,
+            ..
         } = scope;
         let Draft { builder, given, .. } = maker;
         let maker = Cx::new(builder.finish()?);
@@ -197,6 +200,7 @@ impl<'a> Declaring<'a> {
             alloc,
             names,
             maker,
+            numbering: Numbering::new(alloc),
         };
         Ok(Asking::new(scope, given))
     }

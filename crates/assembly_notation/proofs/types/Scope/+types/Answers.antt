@@ -5,7 +5,7 @@ use Rattle.ir_trees.proofs.Growth.Kept.{grows-trans}
 use Rattle.ir_trees.specs.Syntax.Trees.{RegionKind}
 use Rattle.ir_trees.proofs.Growth.Made.{IsRegion-grows, ListFits-grows, BoundsFit-one, principals-one, one_if, one_if-or}
 use Rattle.ir_trees.specs.Syntax.Words.{names_trait}
-use Rattle.assembly_notation.proofs.Lacking.{fits-one, lacks-grows, list-lacks-one, list-lacks-grows, bounds-lack-one}
+use Rattle.assembly_notation.proofs.Lacking.{fits-one, lacks-grows, list-lacks-one, list-lacks-grows, bounds-fit-grows, bounds-lack-grows, bounds-lack-one}
 use Rattle.assembly_notation.proofs.types.Scope.+types.Goals as goal
 
 pub read_args-loop-place-preserved : goal.read_args-loop-place-preserved
@@ -19,19 +19,29 @@ read_args-loop-place-preserved g t c =
           (list-lacks-one (g.M.Build.context c.read_arg.new.self.maker).trees c.loop-place.list.items c.in_ok-read_arg.field-0 (list-lacks-grows _ _ _ c.read_arg.ensures.grows c.loop-place.invariant.fits (c.loop-place.invariant.no_param s)) (c.in_ok-read_arg.ensures.no_param s));
     }
 
-pub read_bounds-loop-preserved : goal.read_bounds-loop-preserved
-read_bounds-loop-preserved g t c =
-    let one_more : c.push.new.self.items ≡ c.loop.list.items ++ c.in_ok-bound.bound ∷ [] = c.in_ok-push.ensures.items in
+pub read_bounds-loop-begin-preserved : goal.read_bounds-loop-begin-preserved
+read_bounds-loop-begin-preserved g t c =
+    let one_more : c.push.new.self.items ≡ c.loop-begin.list.items ++ c.in_ok-bound.bound ∷ [] = c.in_ok-push.ensures.items in
     record {
-      grows = grows-trans _ _ _ c.loop.invariant.grows c.read_bound.ensures.grows;
-      fit = rw one_more (BoundsFit-one _ _ _ _ c.read_bound.ensures.grows c.loop.invariant.fit c.in_ok-bound.ensures.fits);
+      grows = grows-trans _ _ _ c.loop-begin.invariant.grows c.read_bound.ensures.grows;
+      fit = rw one_more (BoundsFit-one _ _ _ _ c.read_bound.ensures.grows c.loop-begin.invariant.fit c.in_ok-bound.ensures.fits);
       no_param = λ s. rw one_more
-          (bounds-lack-one _ _ _ _ c.read_bound.ensures.grows c.loop.invariant.fit (c.loop.invariant.no_param s) (c.in_ok-bound.ensures.no_param s));
+          (bounds-lack-one _ _ _ _ c.read_bound.ensures.grows c.loop-begin.invariant.fit (c.loop-begin.invariant.no_param s) (c.in_ok-bound.ensures.no_param s));
       principals = rw one_more
-          (principals-one c.loop.list.items c.in_ok-bound.bound
-          ∙ ap (λ (n : ℕ). n + one_if (names_trait c.in_ok-bound.bound.value)) c.loop.invariant.principals
-          ∙ one_if-or c.loop.has_principal (names_trait c.in_ok-bound.bound.value) c.in_ok-bound.ensures.principal
-          ∙ ap (λ (b : Bool). one_if (c.loop.has_principal || b)) (sym c.is_principal-has_principal.ensures));
+          (principals-one c.loop-begin.list.items c.in_ok-bound.bound
+          ∙ ap (λ (n : ℕ). n + one_if (names_trait c.in_ok-bound.bound.value)) c.loop-begin.invariant.principals
+          ∙ one_if-or c.loop-begin.has_principal (names_trait c.in_ok-bound.bound.value) c.in_ok-bound.ensures.principal
+          ∙ ap (λ (b : Bool). one_if (c.loop-begin.has_principal || b)) (sym c.is_principal-has_principal.ensures));
+    }
+
+pub read_bounds-loop-begin-preserved-then-is_among : goal.read_bounds-loop-begin-preserved-then-is_among
+read_bounds-loop-begin-preserved-then-is_among g t c =
+    record {
+      grows = grows-trans _ _ _ c.loop-begin.invariant.grows c.read_bound.ensures.grows;
+      fit = bounds-fit-grows _ _ c.loop-begin.list.items c.read_bound.ensures.grows c.loop-begin.invariant.fit;
+      no_param = λ s.
+          bounds-lack-grows _ _ c.loop-begin.list.items c.read_bound.ensures.grows c.loop-begin.invariant.fit (c.loop-begin.invariant.no_param s);
+      principals = c.loop-begin.invariant.principals;
     }
 
 pub read_bound-projection_bound-requires-clause-list :
@@ -67,10 +77,10 @@ pub read_bound-returns-in_ok-term-in-Projection-clause-grows : goal.read_bound-r
 read_bound-returns-in_ok-term-in-Projection-clause-grows g t c = grows-trans _ _ _ (grows-trans _ _ _ c.read_args-in-Projection.ensures.grows c.read_type.ensures.grows) c.projection_bound.ensures.grows
 
 pub read_bounds-returns-in_err-bound-clause-grows : goal.read_bounds-returns-in_err-bound-clause-grows
-read_bounds-returns-in_err-bound-clause-grows g t c = grows-trans _ _ _ c.loop.invariant.grows c.read_bound.ensures.grows
+read_bounds-returns-in_err-bound-clause-grows g t c = grows-trans _ _ _ c.loop-begin.invariant.grows c.read_bound.ensures.grows
 
 pub read_bounds-returns-in_err-push-clause-grows : goal.read_bounds-returns-in_err-push-clause-grows
-read_bounds-returns-in_err-push-clause-grows g t c = grows-trans _ _ _ c.loop.invariant.grows c.read_bound.ensures.grows
+read_bounds-returns-in_err-push-clause-grows g t c = grows-trans _ _ _ c.loop-begin.invariant.grows c.read_bound.ensures.grows
 
 pub read_type-returns-in_ok-target-in-Before-clause-grows : goal.read_type-returns-in_ok-target-in-Before-clause-grows
 read_type-returns-in_ok-target-in-Before-clause-grows g t c = grows-trans _ _ _ c.read_type.ensures.grows c.pointer_to.ensures.grows

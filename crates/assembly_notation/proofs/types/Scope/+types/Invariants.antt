@@ -23,25 +23,31 @@ pub record AreRead (strict : Bool) (old : Context) (new : Context) (list : List 
   pub principals : count_by (λ b. names_trait b.value) list ≡ one_if has_principal
 
 abbrev pub decreases-read_type : goal.decreases-read_type
-decreases-read_type g l = 6 * l.depth
+decreases-read_type g l = 7 * l.depth
 
 abbrev pub decreases-read_arg : goal.decreases-read_arg
-decreases-read_arg g l = 6 * l.depth + 1
+decreases-read_arg g l = 7 * l.depth + 1
 
 abbrev pub decreases-read_args : goal.decreases-read_args
-decreases-read_args g l = 6 * l.depth + 2
+decreases-read_args g l = 7 * l.depth + 2
 
 abbrev pub decreases-read_fn : goal.decreases-read_fn
-decreases-read_fn g l = 6 * l.depth + 3
+decreases-read_fn g l = 7 * l.depth + 3
 
 abbrev pub decreases-read_bound : goal.decreases-read_bound
-decreases-read_bound g l = 6 * l.depth + 4
+decreases-read_bound g l = 7 * l.depth + 4
 
 abbrev pub decreases-read_bounds : goal.decreases-read_bounds
-decreases-read_bounds g l = 6 * l.depth + 5
+decreases-read_bounds g l = 7 * l.depth + 6
+
+abbrev pub decreases-pass_bounds : goal.decreases-pass_bounds
+decreases-pass_bounds g l = 7 * l.depth + 5
 
 abbrev pub invariant-read_args-loop-place : goal.invariant-read_args-loop-place
 invariant-read_args-loop-place g l = IsRead g.M.Build.is_strict (g.M.Build.context l.fn.self.maker) (g.M.Build.context l.self.maker) l.list.items
 
-abbrev pub invariant-read_bounds-loop : goal.invariant-read_bounds-loop
-invariant-read_bounds-loop g l = AreRead g.M.Build.is_strict (g.M.Build.context l.fn.self.maker) (g.M.Build.context l.self.maker) l.list.items l.has_principal
+abbrev pub invariant-pass_bounds-loop-before : goal.invariant-pass_bounds-loop-before
+invariant-pass_bounds-loop-before g l = Grows (g.M.Build.context l.fn.self.maker) (g.M.Build.context l.self.maker)
+
+abbrev pub invariant-read_bounds-loop-begin : goal.invariant-read_bounds-loop-begin
+invariant-read_bounds-loop-begin g l = AreRead g.M.Build.is_strict (g.M.Build.context l.fn.self.maker) (g.M.Build.context l.self.maker) l.list.items l.has_principal
