@@ -4,7 +4,7 @@
 `python3 bench/clash.py FOLDER [--program PATH] [--count N] [--seed N] CRATE ..` wants a folder that `bench/real.py --make` left. For N impls of a
 crate it writes a second one behind the first: the same, an instance with a type for a parameter, or one for all types with a bound. With `--fresh` it
 is one for a new type, which rustc accepts but where an impl for all types with some bound is in its way. rustdoc says, with rustc's words, which impls overlap (E0119, E0751) and which break the orphan rule (E0117, E0210); `check *` says it of the text that
-`tools/cargo_json.py` and `tools/rust_to_text.py` make of the same sources. Each difference is printed, and at last a table of how often they
+`tools/cargo_coherence` makes of the same sources. Each difference is printed, and at last a table of how often they
 answer what. The status is 1 where rustc reports an impl of which the program finds nothing.
 """
 
@@ -24,16 +24,16 @@ from typing import Dict, List, Optional, Tuple
 ROOT = os.path.dirname(os.path.dirname(os.path.abspath(__file__)))
 sys.path.insert(0, os.path.join(ROOT, "tools"))
 
-from aside import WrittenImpl, impls_of  # noqa: E402
-from cargo_json import make  # noqa: E402
-from findings import Finding, read_findings  # noqa: E402
-from program import find_program  # noqa: E402
+from cargo_coherence.from_rustdoc.aside import WrittenImpl, impls_of  # noqa: E402
+from cargo_coherence.from_rustdoc.cargo_json import make  # noqa: E402
+from cargo_coherence.ask.findings import Finding, read_findings  # noqa: E402
+from cargo_coherence.ask.program import find_program  # noqa: E402
 from real import use_made_toolchain  # noqa: E402
-from report import Report  # noqa: E402
-from rust_json import read_crate  # noqa: E402
-from rust_to_text import translate  # noqa: E402
-from toolchain import STD, StepFailed, find_toolchain  # noqa: E402
-from writer import lines  # noqa: E402
+from cargo_coherence.to_text.report import Report  # noqa: E402
+from cargo_coherence.from_rustdoc.rust_json import read_crate  # noqa: E402
+from cargo_coherence.to_text.crates import translate  # noqa: E402
+from cargo_coherence.from_rustdoc.toolchain import STD, StepFailed, find_toolchain  # noqa: E402
+from cargo_coherence.to_text.writer import lines  # noqa: E402
 
 BOUNDS = "Clone Copy Default Iterator Send core::fmt::Display core::fmt::Debug core::ops::Fn()".split() + ["core::ops::Deref<Target = u8>"]
 TYPES = ["u8", "&'static str", "()", "[u16; 3]", "fn(u8) -> u8", "core::option::Option<bool>"]
@@ -186,10 +186,10 @@ def compare(crate: Crate, added: Dict[int, Added], std: str, program: str, cache
             with Captured() as captured:
                 made = make(crate.folder, find_toolchain(), cache, ["--offline", "--quiet"])
             break
-        except StepFailed:
-            wrong = faulty(captured.text, place)
+        except StepFailed as error:
+            wrong = faulty(str(error), place)
             if not wrong:
-                print("%s: %s" % (crate.key, captured.text.strip()[-300:]), file=sys.stderr)
+                print("%s: %s" % (crate.key, str(error).strip()[-300:]), file=sys.stderr)
                 return Counter()
             for number in wrong:
                 added.pop(number, None)
@@ -213,9 +213,9 @@ def by_rustc(refused: List[dict], place: Dict[Tuple[str, int], int]) -> Dict[int
     said: Dict[int, set] = {}
     for message in refused:
         for span in message["spans"]:
-            number = place.get((span["file"], span["line"]))
+            number = place.get((span["file_name"], span["line_start"]))
             if number is not None:
-                said.setdefault(number, set()).add("overlap" if message["code"] in ("E0119", "E0751") else "orphan")
+                said.setdefault(number, set()).add("overlap" if message["code"]["code"] in ("E0119", "E0751") else "orphan")
     return said
 
 

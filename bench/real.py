@@ -8,7 +8,7 @@ run over them. What can't be resolved or documented is named and left out. Half 
 `python3 bench/real.py FOLDER [--program PATH] [CRATE ..]` reads the JSON, and prints a row for each crate as the local one, with core, alloc, std
 and what it depends on. A row has the crate's impls and how many of them could be said whole; what `check *` finds where one of them takes part, and
 how many pairs specialise; the seconds and memory of the program; and the seconds of rustdoc's `wf_checking`, which holds coherence.
-`check_crate.py` runs the same steps for one package. This is no part of the gate.
+`cargo coherence` runs the same steps for one package. This is no part of the gate.
 """
 
 import argparse
@@ -27,15 +27,15 @@ from typing import Dict, List, Optional, Tuple
 ROOT = os.path.dirname(os.path.dirname(os.path.abspath(__file__)))
 sys.path.insert(0, os.path.join(ROOT, "tools"))
 
-from cargo_json import described_packages, document  # noqa: E402
-from program import find_program  # noqa: E402
-from report import Report  # noqa: E402
-from rust_json import CrateJson, read_crate  # noqa: E402
-from rust_to_text import translate  # noqa: E402
-from rustdoc_wrapper import TIMED, seconds_of_checking  # noqa: E402
-from special import check  # noqa: E402
-from toolchain import STD, StepFailed, Toolchain, find_toolchain, make_std, output, std_command, std_sources  # noqa: E402
-from writer import lines  # noqa: E402
+from cargo_coherence.from_rustdoc.cargo_json import Request, Workspace, document  # noqa: E402
+from cargo_coherence.ask.program import find_program  # noqa: E402
+from cargo_coherence.to_text.report import Report  # noqa: E402
+from cargo_coherence.from_rustdoc.rust_json import CrateJson, read_crate  # noqa: E402
+from cargo_coherence.to_text.crates import translate  # noqa: E402
+from cargo_coherence.from_rustdoc.rustdoc_wrapper import TIMED, seconds_of_checking  # noqa: E402
+from cargo_coherence.specialization.special import check  # noqa: E402
+from cargo_coherence.from_rustdoc.toolchain import STD, StepFailed, Toolchain, find_toolchain, make_std, output, std_command, std_sources  # noqa: E402
+from cargo_coherence.to_text.writer import lines  # noqa: E402
 
 TOOLCHAIN = "rustc-web rust-web-src libstd-rust-web-dev libllvm22".split()
 CRATES = """
@@ -72,10 +72,12 @@ def make(folder: str, crates: List[str]) -> None:
     os.environ.setdefault("CARGO_BUILD_JOBS", "1")
     os.environ["RILGOMUT_TIMES"] = "1"
     manifest = _package(os.path.join(folder, "all"), registry, wanted)
-    packages, depends = described_packages(manifest, toolchain, ["--offline"])
-    out = os.path.join(folder, "crates")
-    keys = document(manifest, packages, toolchain, os.path.join(folder, "target"), out, ["--offline", "--keep-going"])
-    described = {"keys": keys, "depends": depends, "wanted": wanted}
+    workspace = Workspace(Request(manifest, further=["--offline", "--keep-going"]), toolchain)
+    units = workspace.units()
+    ran = document(workspace, units, os.path.join(folder, "target"), os.path.join(folder, "crates"))
+    below = [package for unit in units for package in unit.below]
+    depends = {package.key(): [other.key() for other in workspace.below(package, package.library())] for package in below}
+    described = {"keys": ran.keys, "depends": depends, "wanted": wanted}
     with open(os.path.join(folder, "described.json"), "w", encoding="utf-8") as file:
         json.dump(described, file, indent=1)
 

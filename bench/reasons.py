@@ -16,14 +16,14 @@ from typing import Dict, List, Optional
 
 from real import read_all, read_for
 
-from answers import Speller  # noqa: E402
-from findings import Finding, Reasons  # noqa: E402
-from model import Impl, Place, Term  # noqa: E402
-from program import ask, find_program  # noqa: E402
-from report import Report  # noqa: E402
-from rust_to_text import translate  # noqa: E402
-from special import check  # noqa: E402
-from writer import lines, places  # noqa: E402
+from cargo_coherence.ask.answers import Speller  # noqa: E402
+from cargo_coherence.ask.findings import Finding, Reasons  # noqa: E402
+from cargo_coherence.to_text.model import Impl, Place, Term  # noqa: E402
+from cargo_coherence.ask.program import ask, find_program  # noqa: E402
+from cargo_coherence.to_text.report import Report  # noqa: E402
+from cargo_coherence.to_text.crates import translate  # noqa: E402
+from cargo_coherence.specialization.special import check  # noqa: E402
+from cargo_coherence.to_text.writer import lines, places  # noqa: E402
 
 LONGEST = 300  # lines of an impl that are looked through
 DEFAULT = re.compile(r"\bdefault\b[^\n]*\b(fn|type|const|impl)\b|\w*default\w*!")  # `default fn`, or a macro that writes such

@@ -36,7 +36,7 @@ pub mod case_28 { pub trait Tr {} impl<I: IntoIterator> Tr for (I,) where I::Ite
 pub mod case_29 { pub trait Tr {} impl<T: Iterator> Tr for T where T::Item: Copy {} impl<T: Iterator<Item = u8>> Tr for T {} }
 pub mod case_30 { pub trait Tr {} impl<T: Iterator> Tr for T where T::Item: Copy {} impl<T: Iterator<Item = U>, U> Tr for T {} }
 pub mod case_31 { pub trait Tr<U> {} impl<T, U> Tr<U> for T where T: Into<U> {} impl<T> Tr<T> for T {} impl<T> Tr<Vec<T>> for Option<T> {} }
-pub mod case_32 { pub trait Tr {} impl<F: Fn() -> R, R: Copy> Tr for F {} impl<R: Copy> Tr for fn() -> R {} } // open
+pub mod case_32 { pub trait Tr {} impl<F: Fn() -> R, R: Copy> Tr for F {} impl<R: Copy> Tr for fn() -> R {} }
 pub mod case_33 { pub trait Q<T> {} pub trait Tr {} impl<T, U: Clone> Tr for (T, U) where T: Q<U> {} impl<T> Tr for (T, u8) where T: Q<u8> {} impl<T> Tr for (T, u16) where T: Q<u8> {} }
 pub mod case_34 { pub struct W<T>(*const T); pub trait Tr {} impl<T: Send> Tr for T {} impl<T> Tr for W<T> {} pub struct V<T>(T, u8); impl<T: Send> Tr for V<T> {} impl<T> Tr for Vec<V<T>> {} }
 pub mod case_35 { pub trait X<T> {} impl X<u8> for u16 {} impl X<u16> for u16 {} pub trait Y {} impl<T> Y for T where T: X<u8> {} pub trait Tr {} impl<T: Y> Tr for T {} impl Tr for u16 {} impl Tr for u32 {} }

@@ -1,0 +1,1 @@
+"""Questions to the program `assembly`, and its answers in Rust's terms."""

@@ -1,0 +1,1 @@
+"""Which of two impls specialises the other."""

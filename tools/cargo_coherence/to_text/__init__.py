@@ -1,0 +1,1 @@
+"""From rustdoc's JSON to a text for the program `assembly`."""

@@ -1,0 +1,1 @@
+"""What rustc says of the impls that are found: errors, lints, and what stays undecided."""
