@@ -437,7 +437,7 @@ impl 0 pinned 0 + Tr Pin & Loc
     },
     {
         "name": "foreign_arguments",
-        "about": "The same of a trait with an argument: the first local type counts, and what stands before it.",
+        "about": "A trait of another crate with an argument: the first local type counts, and what stands before it.",
         "text": """
 adt 1 Up 0
 adt 1 UpGen 1
@@ -579,7 +579,7 @@ impl 0 vec_loc 0 + Tr Vec Loc
     },
     {
         "name": "itself_held",
-        "about": "The same, which holds by the other impl.",
+        "about": "A clause on the trait itself, which holds by the other impl.",
         "text": """
 trait 0 Tr 0
 adt 0 Loc 0

@@ -168,7 +168,8 @@ fn array<'a, M: Maker>(
     maker.ty(TyKind::Array(target, constant), word)
 }
 
-/// The constant that a word names. `Fault::Variable` comes at a variable, `Fault::Parameter` at a parameter where none may stand.
+/// The constant that a word names. `Fault::Variable` comes at a variable, `Fault::Parameter` at a parameter and `Fault::Error` at an
+/// error where none may stand.
 pub fn make_constant<'a, M: Maker>(maker: &mut M, named: Constant) -> Result<Const, Fault<'a>>
     ensures grows { Grows (M.context maker.old) (M.context maker.new) }
     ensures sort { IfOk result (λ x. IsConst (M.context maker.new).trees x) }
@@ -187,7 +188,12 @@ pub fn make_constant<'a, M: Maker>(maker: &mut M, named: Constant) -> Result<Con
             Ok(maker.mk_const(ConstKind::Placeholder(placeholder))?)
         }
         Constant::Variable => Err(Fault::Variable),
-        Constant::Error => Ok(maker.mk_const(ConstKind::Error)?),
+        Constant::Error => {
+            if let Some(fault) = maker.misplaced(TyKind::Error) {
+                return Err(fault);
+            }
+            Ok(maker.mk_const(ConstKind::Error)?)
+        }
     }
 }
 

@@ -44,6 +44,8 @@ pub enum Fault<'a> {
     NotAnAlias,
     /// An alias stands in a type that has to be without.
     Alias,
+    /// The word `error` stands in a type that has to be without. It prints as a word that is no type.
+    Error,
     /// A `dyn` type has a second trait that isn't an auto trait.
     TwoPrincipals,
     /// A supertrait of a trait alias, whose rule asks for its `where` clauses alone.
@@ -127,6 +129,7 @@ impl<'a> Fault<'a> {
             Fault::Parameter => ("parameter", Detail::Nothing),
             Fault::NotAnAlias => ("not an alias", Detail::Nothing),
             Fault::Alias => ("alias", Detail::Nothing),
+            Fault::Error => ("unknown name ", Detail::Word("error")),
             Fault::TwoPrincipals => ("two principals", Detail::Nothing),
             Fault::SuperOfAlias => ("super of an alias", Detail::Nothing),
             Fault::LongLine(_) => ("long line", Detail::Nothing),

@@ -30,7 +30,7 @@ pub trait Maker: Build {
     /// Whether the type that was made last is an alias, if that is noted.
     ghost noted: { Self → Option Bool };
 
-    /// What is wrong with a type of that kind, which a word alone is: it is a parameter or a variable where none may stand.
+    /// What is wrong with a type of that kind, which a word alone is: it is a parameter, a variable or an error where none may stand.
     fn misplaced<'a>(&self, kind: TyKind) -> Option<Fault<'a>>
         ensures { IfNone result (Self.is_strict ≡ true → is_param (ty_head kind) ≡ false) };
 
@@ -142,6 +142,8 @@ pub struct Draft {
     pub given: Given,
     /// Whether parameters may stand in the types of the line.
     pub has_parameters: bool,
+    /// Whether errors may.
+    pub has_errors: bool,
     /// Whether the type that was made last is an alias.
     pub is_alias: bool,
     /// Whether one was made that is, since this was last said to be false.
@@ -153,9 +155,9 @@ pub struct Draft {
 impl Build for Draft {
     ghost context = { λ d. d.builder };
 
-    ghost Rest = { Given × (Bool × (Bool × Bool)) };
+    ghost Rest = { Given × (Bool × (Bool × (Bool × Bool))) };
 
-    ghost rest = { λ d. (d.given, (d.has_parameters, (d.is_alias, d.has_alias))) };
+    ghost rest = { λ d. (d.given, (d.has_parameters, (d.has_errors, (d.is_alias, d.has_alias)))) };
 
     ghost is_strict = { false };
 
@@ -173,6 +175,7 @@ impl Maker for Draft {
         match kind {
             TyKind::Infer(InferTy::TyVar(_)) => Some(Fault::Variable),
             TyKind::Param(_) if !self.has_parameters => Some(Fault::Parameter),
+            TyKind::Error if !self.has_errors => Some(Fault::Error),
             _ => None,
         }
     }

@@ -68,9 +68,9 @@ enum BoundHead {
 impl<'n, M: Maker> Scope<'n, M> {
     /// The next type of a line, under these binders, whose words may be nested that deep.
     ///
-    /// Besides the faults of its words and of their names, `Fault::Parameter` and `Fault::Variable` come at a parameter and at
-    /// a variable where none may stand, `Fault::NoConstant` and `Fault::NoRegion` where one is asked for, and `Fault::Stop` where a word
-    /// is nested deeper or a node can't be made.
+    /// Besides the faults of its words and of their names, `Fault::Parameter`, `Fault::Variable` and `Fault::Error` come at a parameter,
+    /// at a variable and at an error where none may stand, `Fault::NoConstant` and `Fault::NoRegion` where one is asked for, and
+    /// `Fault::Stop` where a word is nested deeper or a node can't be made.
     #[cycle(types)]
     pub fn read_type<'a>(
         &mut self,

@@ -135,6 +135,7 @@ impl<'a> Declaring<'a> {
             builder,
             given,
             has_parameters: true,
+            has_errors: true,
             is_alias: false,
             has_alias: false,
         };
@@ -167,6 +168,10 @@ impl<'a> Declaring<'a> {
         origin: Origin,
     ) -> Result<(), Fault<'a>> {
         self.scope.maker.has_parameters = !matches!(declaration, Declaration::Given(_));
+        self.scope.maker.has_errors = !matches!(
+            declaration,
+            Declaration::Given(GivenPart::NormalForm)
+        );
         match declaration {
             Declaration::Definition(kind) => {
                 let new = self.scope.read_definition(kind, words)?;
@@ -239,7 +244,7 @@ impl<'a> Declaring<'a> {
         Ok(())
     }
 
-    /// An alias, and then a type without one, which it is normalised to.
+    /// An alias, and then a type without one, which it is normalised to. Neither has an error.
     fn norm(&mut self, words: &mut Words<'a>) -> Result<(), Fault<'a>> {
         let alias = self.scope.read_type(words, Binders::none(), MAX_DEPTH)?;
         if !self.scope.maker.is_alias {

@@ -200,6 +200,7 @@ fn sentence(fault: Fault<'_>, line: &[u8]) -> &'static str {
         Fault::Parameter => "a parameter may stand neither in a query nor in env and norm",
         Fault::NotAnAlias => "the type that ends here is no alias, or for normalize no projection",
         Fault::Alias => "an alias stands in the type that ends here",
+        Fault::Error => "an error may stand neither in the alias of norm nor in its type",
         Fault::TwoPrincipals => "a second trait of the dyn type is no auto trait",
         Fault::SuperOfAlias => "what a trait alias stands for is said by where lines",
         Fault::Stop(Stop::Memory) => "a growth was refused",

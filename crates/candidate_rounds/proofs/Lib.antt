@@ -5,3 +5,4 @@ pub mod Resolution
 pub mod Stops
 pub mod Equations
 pub mod Obligations
+pub mod Leaking

@@ -4,6 +4,7 @@ pub mod Starting
 pub mod Standing
 pub mod Walking
 pub mod Found
+pub mod Leaking
 pub mod Leaves
 pub mod Assigning
 pub mod Frames

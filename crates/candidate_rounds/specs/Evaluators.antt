@@ -3,3 +3,4 @@ pub mod Known
 pub mod Interface
 pub mod Stopping
 pub mod Following
+pub mod Leaking

@@ -11,6 +11,7 @@ mod giving;
 pub mod goals;
 mod inference;
 mod keys;
+pub mod leaking;
 mod normal_forms;
 pub mod normalizing;
 mod opening;

@@ -27,7 +27,7 @@ use Rattle.rounds_judge.specs.Aliases.Congruence.{SameTree, pair, same}
 use Rattle.rounds_judge.specs.Aliases.Listed.{Listing}
 use Rattle.rounds_judge.specs.Aliases.Normalizing.{type_or_itself}
 use Rattle.rounds_judge.specs.Equations.Standing.{IsListing}
-use Rattle.rounds_judge.proofs.Aliases.Congruent.{fixed_stays, listed_pair, same_to}
+use Rattle.rounds_judge.proofs.Aliases.Congruent.{fixed_stays, listed_pair, pair_counts, same_to}
 use Rattle.rounds_judge.proofs.Aliases.Equated.{pair_listed}
 use Rattle.rounds_judge.proofs.Lawfulness.JudgeLaws.{WhichType, is_type, itself, which_type}
 use Rattle.rounds_judge.proofs.Table.TableSettled.{apart}
@@ -94,5 +94,5 @@ normal_under l listing v of s = at (type_or_itself l s) (which_type l s)
         let k = pair_listed l s u e in
         let f = listed_pair l listing k.of k.there in
         same_to l (alone k.of.0) (alone k.of.1) (alone (valued_tree v s)) (alone (valued_tree v u)) (ap alone (sym (fixed_stays v free k.of.0 f.alias) ∙ ap (valued_tree v) k.alias)) (ap alone (sym (fixed_stays v free k.of.1 f.type) ∙ ap (valued_tree v) k.type))
-        (pair k.of.0 k.of.1 k.there (same none))
+        (pair k.of.0 k.of.1 (pair_counts l listing k.of k.there) (same none))
     at _ itself = same (alone (valued_tree v s))

@@ -64,7 +64,7 @@ module _ (l : Listing) (none_listed : l.pairs ≡ []) where
   same_shape (heads h {a = a} {b = b} {r = r} {s = s} p q) = ap (λ x. placed (is_region h) h x (shape r)) (same_shape p) ∙ ap (placed (is_region h) h (shape b)) (same_shape q)
   same_shape (regions g h a b {r = r} {s = s} x y q) =
       ap (λ z. placed z g (shape a) (shape r)) x ∙ (ap (tree (H.Region R.Static) none) (same_shape q) ∙ sym (ap (λ z. placed z h (shape b) (shape s)) y))
-  same_shape (pair t u there q) = absurd (none_there (t, u) (subst (λ ps. Contains ps (t, u)) none_listed there))
+  same_shape (pair t u there q) = absurd (none_there (t, u) (subst (λ ps. Contains ps (t, u)) none_listed there.is_among))
   same_shape (back q) = sym (same_shape q)
   same_shape (along p q) = same_shape p ∙ same_shape q
 

@@ -1,5 +1,5 @@
 -- The clauses of two impls that may overlap, asked: said of an earlier evaluator, and of the declared impls.
-use Rattle.std.proofs.Common.{◌≡◌, ◌||◌, false, true, ℕ, List, Some, length, sym, ap, subst, ◌∙◌}
+use Rattle.std.proofs.Common.{◌≡◌, ◌||◌, Bool, false, true, ℕ, List, Some, length, sym, ap, subst, ◌∙◌}
 use Rattle.ir_trees.specs.declared.decl.contents.ImplId.{ImplId}
 use Rattle.ir_trees.specs.declared.ir.kinds.Clause.{Clause}
 use Rattle.ir_trees.specs.Declarations.Context.{Context}
@@ -16,7 +16,7 @@ use Rattle.rounds_judge.specs.Equations.Opening.{are_open}
 use Rattle.rounds_judge.specs.Table.GoalTable.{GoalTable}
 use Rattle.overlaps.specs.Apart.{OfDeclared, aside, opened}
 use Rattle.overlaps.specs.Asked.{AllStay, BothImplsStay, BothStay, FirstStay, ImplStays, ImplsStayBefore, OfClause, PairWasAsked, PairWasAskedBefore, SoManyStay, StayBefore, WereAsked, WereAskedBefore, WhereMay, before_of_first, before_of_second, declared_first, declared_second, pair_asked, pair_undecided, impls_asked, impls_undecided}
-use Rattle.overlaps.specs.Instance.{first_header, second_header}
+use Rattle.overlaps.specs.Instance.{first_header, second_header, unless_leaking}
 use Rattle.overlaps.specs.Opening.{AreOpened, IsOpenedOf}
 use Rattle.overlaps.specs.Refused.{AreOpen, MakesHeadersEqual, headers_equated, locals_of}
 use Rattle.overlaps.specs.Stopping.{IsLater}
@@ -34,6 +34,24 @@ may-weaker f O.NoCommonTrait p = tt
 may-weaker f (O.Allowed w) p = tt
 may-weaker f O.DisjointHeaders p = tt
 may-weaker f (O.DisjointClause w) p = tt
+
+-- The same where nothing is certain since a region leaks.
+
+pub unless-asked : (P : Type 0) (leaks : Bool) (o : Overlap) → WhereMay P o → WhereMay P (unless_leaking leaks o)
+unless-asked P false o h = h
+unless-asked P true (O.May x) h = h
+unless-asked P true O.NoCommonTrait h = tt
+unless-asked P true (O.Allowed w) h = tt
+unless-asked P true O.DisjointHeaders h = tt
+unless-asked P true (O.DisjointClause w) h = tt
+
+pub unless-before : (P : WhereClause → Type 0) (leaks : Bool) (o : Overlap) → OfClause P o → OfClause P (unless_leaking leaks o)
+unless-before P false o h = h
+unless-before P true (O.May x) h = tt
+unless-before P true O.NoCommonTrait h = tt
+unless-before P true (O.Allowed w) h = tt
+unless-before P true O.DisjointHeaders h = tt
+unless-before P true (O.DisjointClause w) h = h
 
 -- Asked where the headers are equal, in a probe that began then with nothing pending, and that has ended.
 pub pair-asked : (old began ran new : Evaluator) (count : ℕ) (p : Pair) (after : State) → IsLater old began → table_of began ≡ table_of old → AreOpen old.context.trees p

@@ -1,5 +1,5 @@
 -- Instances of the headers of two impls, from what is said where they are open to what is said of those that are declared.
-use Rattle.std.proofs.Common.{◌≡◌, ◌||◌, true, false, List, Some, refl, sym, ap, subst, ◌∙◌}
+use Rattle.std.proofs.Common.{◌≡◌, ◌||◌, Bool, true, false, List, Some, refl, sym, ap, subst, ◌∙◌, ℕ}
 use Rattle.ir_trees.specs.declared.decl.contents.ImplId.{ImplId}
 use Rattle.ir_trees.specs.declared.ir.kinds.TraitId.{TraitId}
 use Rattle.ir_trees.specs.declared.ir.kinds.TraitRef.{TraitRef}
@@ -14,6 +14,7 @@ use Rattle.candidate_eval.specs.Interface.Evaluators.{accepted}
 use Rattle.candidate_eval.specs.Judges.States.{State}
 use Rattle.candidate_rounds.specs.Evaluators.Interface.{Fixed, fixed, judge_of}
 use Rattle.candidate_rounds.specs.Evaluators.Known.{Evaluator, IsGiven, listing, state, table_of}
+use Rattle.candidate_rounds.specs.Evaluators.Leaking.{Leaks}
 use Rattle.candidate_rounds.specs.Table.Goals.{Via}
 use Rattle.candidate_rounds.specs.Table.Running.{StaysBesideTable}
 use Rattle.rounds_judge.specs.Aliases.Listed.{Listing}
@@ -23,7 +24,7 @@ use Rattle.overlaps.specs.Answered.{BothHold}
 use Rattle.overlaps.specs.Allowed.{allowance_of_ordered}
 use Rattle.overlaps.specs.Apart.{AreApart, AreOfOneTrait, AreOfOtherTraits, IfDeclared, OfDeclared, aside, opened}
 use Rattle.overlaps.specs.Found.{IsFoundAt, IsFoundOfPair, IsFoundWhereEqual, IsNotAllowed}
-use Rattle.overlaps.specs.Instance.{AreOneAt, BothImplsHold, CountAsEqual, HaveNoAlias, IsCommonInstance, IsInstanceOfPair, IsInstanceWhereEqual, IsReferenceAt, equation_of, first_header, left_open, made_equal, second_header}
+use Rattle.overlaps.specs.Instance.{AreOneAt, BothImplsHold, CountAsEqual, HaveNoAlias, IsCertainUnless, IsCommonInstance, IsInstanceOfPair, IsInstanceWhereEqual, IsReferenceAt, equation_of, first_header, left_open, made_equal, second_header, unless_leaking}
 use Rattle.overlaps.specs.Opening.{AreOpened}
 use Rattle.overlaps.specs.Refused.{AreOpen, headers_equated}
 use Rattle.overlaps.specs.declared.instance.CommonInstance.{CommonInstance}
@@ -33,6 +34,7 @@ use Rattle.overlaps.specs.declared.overlap.Overlap.TheVariants as O
 use Rattle.overlaps.proofs.PureFolder.{all-declared, both-said}
 use Rattle.overlaps.proofs.Headers.{accepted-one}
 use Rattle.overlaps.proofs.Pairs.{clause-declared, clause-probed, errors-alone, headers-apart, listed-leaves, pair-left, same-listing}
+use Rattle.overlaps.proofs.Universes.{both-universe}
 
 -- a reference of a header that is the same by an earlier context, at the same state
 reference-said : (S T : State) (t u : TraitId) (f g : Forest) (ts : List Tree) (r : TraitRef) → T ≡ S → u ≡ t → g ≡ f → IsReferenceAt T u g ts r → IsReferenceAt S t f ts r
@@ -70,6 +72,7 @@ instance-with-aliases old new p x rigid alias unsure at = record {
   after = state old;
   equal = left_open rigid alias refl;
   at = record { is = record { of_trait = at.of_trait; sort = at.sort; is = at.is }; hold = λ e. never e; no_alias = λ e. never e };
+  no_leak = λ e. never e;
 }
   where
     never : {A : Type 0} → x.is_certain ≡ true → A
@@ -91,16 +94,30 @@ instance-aside old began ran new p x after g known s f n h =
       no_alias = λ e. no-alias-before old.context began.context p g known (h.no_alias e);
     }
 
+-- What is found is so where nothing is certain since a region leaks.
+pub unless-found : (old new : Evaluator) (p : Pair) (leaks : Bool) (o : Overlap) → IsFoundWhereEqual old new p o → IsFoundWhereEqual old new p (unless_leaking leaks o) × IsCertainUnless leaks (unless_leaking leaks o)
+unless-found old new p false O.NoCommonTrait h = (h, tt)
+unless-found old new p false (O.Allowed w) h = (h, tt)
+unless-found old new p false O.DisjointHeaders h = (h, tt)
+unless-found old new p false (O.DisjointClause w) h = (h, tt)
+unless-found old new p false (O.May x) h = (h, λ e. refl)
+unless-found old new p true O.NoCommonTrait h = (h, tt)
+unless-found old new p true (O.Allowed w) h = (h, tt)
+unless-found old new p true O.DisjointHeaders h = (h, tt)
+unless-found old new p true (O.DisjointClause w) h = (h, tt)
+unless-found old new p true (O.May x) h = (record { is = h.is; hold = λ e. absurd cc; no_alias = λ e. absurd cc }, λ e. absurd cc)
+
 -- What is found where the headers are equal, by what their equation left.
-pub found-of-pair : (old began ran new : Evaluator) (p : Pair) (after : State) → Grows old.context began.context → AreOpen old.context.trees p → headers_equated old p ≡ Some after → state began ≡ aside after
-    → fixed new ≡ fixed ran → new.context ≡ ran.context → (o : Overlap) → IsFoundWhereEqual began ran p o → IsFoundOfPair old new p o
-found-of-pair old began ran new p after g known equal s f n O.NoCommonTrait h = absurd h
-found-of-pair old began ran new p after g known equal s f n (O.Allowed w) h = absurd h
-found-of-pair old began ran new p after g known equal s f n O.DisjointHeaders h = absurd h
-found-of-pair old began ran new p after g known equal s f n (O.DisjointClause w) h =
-    record { after = after; equal = equal; between = began; grows = g; is_aside = s; refused = pair-left began ran new p w f h }
-found-of-pair old began ran new p after g known equal s f n (O.May x) h =
-    record { after = after; equal = made_equal equal; at = instance-aside old began ran new p x after g known s f n h }
+pub found-of-pair : (old began ran new : Evaluator) (p : Pair) (after : State) → Grows old.context began.context → AreOpen old.context.trees p → headers_equated old p ≡ Some after → (leaks : Bool)
+    → (leaks ≡ false → Leaks (state old).newest_universe after → ⊥) → state began ≡ aside after → fixed new ≡ fixed ran → new.context ≡ ran.context → (o : Overlap)
+    → IsFoundWhereEqual began ran p o × IsCertainUnless leaks o → IsFoundOfPair old new p o
+found-of-pair old began ran new p after g known equal leaks kept s f n O.NoCommonTrait h = absurd h.0
+found-of-pair old began ran new p after g known equal leaks kept s f n (O.Allowed w) h = absurd h.0
+found-of-pair old began ran new p after g known equal leaks kept s f n O.DisjointHeaders h = absurd h.0
+found-of-pair old began ran new p after g known equal leaks kept s f n (O.DisjointClause w) h =
+    record { after = after; equal = equal; between = began; grows = g; is_aside = s; refused = pair-left began ran new p w f h.0 }
+found-of-pair old began ran new p after g known equal leaks kept s f n (O.May x) h =
+    record { after = after; equal = made_equal equal; at = instance-aside old began ran new p x after g known s f n h.0; no_leak = λ e. kept (h.1 e) }
 
 -- It isn't that what is declared allows an overlap.
 pub found-decides : (old new : Evaluator) (p : Pair) (o : Overlap) → IsFoundOfPair old new p o → IsNotAllowed o
@@ -151,6 +168,7 @@ module _ (old mid new : Evaluator) (a b : ImplId) (p : Pair) (grows : Grows old.
             first = all-declared c mid.context (table_of new) S (aside h.after) o.i p.first grows o.first (h.at.hold e).first;
             second = all-declared c mid.context (table_of new) (opened S o.i) (aside h.after) o.j p.second grows o.second (h.at.hold e).second;
           };
+          no_leak = λ e l. h.no_leak e (subst (λ (u : ℕ). Leaks u h.after) (sym (ap (λ (U : State). U.newest_universe) s ∙ both-universe S o.i o.j)) l);
         };
       }
 
@@ -183,6 +201,7 @@ instance-probed old began ran new T a b x cx f s g n h =
         one = subst (λ (q : Context × State). AreOneAt k.after (first_header q.0 q.1 h.i h.j) (second_header q.0 q.1 h.i h.j)) (λ i. (cx i, s i)) k.one;
         is = subst (λ (q : Context × State × Context). IsReferenceAt (aside k.after) h.i.trait_ref.def_id (first_header q.0 q.1 h.i h.j) q.2.trees x.trait_ref) (λ i. (cx i, s i, z i)) k.is;
         certain = λ e. subst (λ (q : Context × GoalTable Via × State). BothImplsHold q.0 q.1 q.2 (aside k.after) h.i h.j) (λ i. (cx i, t i, s i)) (k.certain e);
+        no_leak = λ e l. k.no_leak e (subst (λ (U : State). Leaks U.newest_universe k.after) (sym s) l);
       };
     }
 

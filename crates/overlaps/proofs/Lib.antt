@@ -29,3 +29,4 @@ mod Jointly
 mod JointNormals
 mod JointPairs
 mod OpenClauses
+pub mod Universes

@@ -36,6 +36,7 @@ use Rattle.candidate_assembly.specs.Goals.TraitGoals.{trait_goal}
 use Rattle.candidate_assembly.proofs.Rules.ImplSteps.{impl-same}
 use Rattle.candidate_rounds.specs.Evaluators.Interface.{Fixed, fixed, judge_of}
 use Rattle.candidate_rounds.specs.Evaluators.Known.{Evaluator, state, table_of}
+use Rattle.candidate_rounds.specs.Evaluators.Leaking.{Leaks}
 use Rattle.candidate_rounds.specs.Table.Goals.{Via}
 use Rattle.candidate_rounds.specs.Table.Running.{StaysBesideTable}
 use Rattle.candidate_rounds.proofs.Stops.ResponseStops.{contains-mapped}
@@ -52,6 +53,7 @@ use Rattle.overlaps.specs.declared.opening.Pair.{Pair}
 use Rattle.overlaps.proofs.OpenedImpls.{given-early, kinds-there, opened-earlier}
 use Rattle.overlaps.proofs.Refusing.{got-fits}
 use Rattle.overlaps.proofs.Specialized.{environment-earlier}
+use Rattle.overlaps.proofs.Universes.{both-universe}
 
 -- what is something isn't nothing
 pub some-not-none : {A : Type 0} (o : Option A) (x : A) → o ≡ Some x → o ≡ None → ⊥
@@ -261,9 +263,9 @@ negated-from old one now p placeholders T g h f first second known fits n x =
     }
 
 pub negated-of-pair : (old now : Evaluator) (p : Pair) (placeholders : Args × Args) (T : GoalTable Via) → Grows old.context now.context → fixed now ≡ fixed old → AreOpen old.context.trees p
-    → IsArgs old.context.trees placeholders.0 → IsArgs old.context.trees placeholders.1 → headers_equated old p ≡ Some (state now) → (n : ℕ)
-    → IsNegatedFrom now (state now) (both_forests now.context.trees placeholders) T p n → IsNegatedOfPair old (both_forests old.context.trees placeholders) T p n
-negated-of-pair old now p placeholders T g f known one other equal n h =
+    → IsArgs old.context.trees placeholders.0 → IsArgs old.context.trees placeholders.1 → headers_equated old p ≡ Some (state now) → (Leaks (state old).newest_universe (state now) → ⊥)
+    → (n : ℕ) → IsNegatedFrom now (state now) (both_forests now.context.trees placeholders) T p n → IsNegatedOfPair old (both_forests old.context.trees placeholders) T p n
+negated-of-pair old now p placeholders T g f known one other equal kept n h =
     let c = old.context in
     let d = now.context in
     let v = (args-kept c d p.first.locals g known.0.0).1 in
@@ -273,6 +275,7 @@ negated-of-pair old now p placeholders T g f known one other equal n h =
     record {
       after = state now;
       equal = equal;
+      no_leak = kept;
       from = record {
         plugged = h.plugged;
         leads = subst (λ (q : Fixed × (Forest × Forest) × Forest × Forest). BothArePlugged (judge_of q.0) (state now) q.1 (q.2, q.3) h.plugged) (λ i. (f i, (v i, w i), a i, b i)) h.leads;
@@ -339,6 +342,7 @@ module _ (old one two mid : Evaluator) (a b : ImplId) (p : Pair) (first : Grows 
         holds = record {
           after = h.after;
           equal = subst (λ (q : Fixed × State × Forest × Forest). accepted (judge_of q.0) q.1 none q.2 q.3 ≡ Some h.after) (λ k. (f k, u k, v k, w k)) h.equal;
+          no_leak = λ l. h.no_leak (subst (λ (q : ℕ). Leaks q h.after) (sym (ap (λ (U : State). U.newest_universe) u ∙ both-universe W i j)) l);
           plugged = h.from.plugged;
           leads =
               subst (λ (q : Fixed × (Forest × Forest) × Forest × Forest). BothArePlugged (judge_of q.0) h.after q.1 (q.2, q.3) h.from.plugged)
@@ -367,6 +371,7 @@ negated-probed old began ran new a b cx f s g n h =
       holds = record {
         after = k.after;
         equal = subst (λ (q : Fixed × Context × State). MakesHeadersEqual (judge_of q.0) q.1 (with_names q.2 i j) i j k.after) (λ z. (f z, cx z, s z)) k.equal;
+        no_leak = λ x. k.no_leak (subst (λ (U : State). Leaks (with_names U i j).newest_universe k.after) (sym s) x);
         plugged = k.plugged;
         leads =
             subst (λ (q : Fixed × State). BothArePlugged (judge_of q.0) k.after (variables_of (with_names q.1 i j) i j) (names_of q.1 i j) k.plugged) (λ z. (f z, s z)) k.leads;
@@ -413,6 +418,7 @@ negated-earlier old mid a b T stays given other n h =
       holds = record {
         after = k.after;
         equal = subst (λ (U : State). MakesHeadersEqual (judge_of (fixed old)) c (with_names U i j) i j k.after) s equal;
+        no_leak = λ x. k.no_leak (subst (λ (U : State). Leaks (with_names U i j).newest_universe k.after) (sym s) x);
         plugged = k.plugged;
         leads =
             subst (λ (U : State). BothArePlugged (judge_of (fixed old)) k.after (variables_of (with_names U i j) i j) (names_of U i j) k.plugged) s

@@ -23,6 +23,7 @@ use Rattle.candidate_eval.proofs.Dynamic.Required.{pushed_fit, pushed_trees}
 use Rattle.candidate_assembly.specs.Answers.KnownImpls.{kinds_of_impl}
 use Rattle.candidate_rounds.specs.Evaluators.Interface.{Fixed, fixed, judge_of}
 use Rattle.candidate_rounds.specs.Evaluators.Known.{Evaluator, state, table_of}
+use Rattle.candidate_rounds.specs.Evaluators.Leaking.{Leaks}
 use Rattle.candidate_rounds.specs.Table.Goals.{Via}
 use Rattle.candidate_rounds.specs.Table.Running.{StaysBesideTable}
 use Rattle.rounds_judge.specs.Table.GoalTable.{GoalTable}
@@ -38,6 +39,7 @@ use Rattle.overlaps.specs.declared.specializing.Specialization.{Specialization}
 use Rattle.overlaps.specs.declared.specializing.Specialization.TheVariants as answer
 use Rattle.overlaps.proofs.PureFolder.{all-declared-with, all-said}
 use Rattle.overlaps.proofs.OpenedImpls.{opened-later}
+use Rattle.overlaps.proofs.Universes.{opened-universe}
 
 -- Where clauses with what stands for the parameters, put in one after the other
 
@@ -150,9 +152,9 @@ hold-earlier old mid new env o stays table e known h =
 pub found-under : (old began ran new : Evaluator) (env : ParamEnv) (p : Pair) (after : State) → Grows old.context began.context → IsParamEnv old.context.trees env → AreOpen old.context.trees p
     → HaveNoAlias (args_forest old.context.trees p.second.header) (args_forest old.context.trees p.first.header)
     → accepted (judge_of (fixed old)) (state old) (env_forest old.context.trees env) (args_forest old.context.trees p.second.header) (args_forest old.context.trees p.first.header) ≡ Some after
-    → state began ≡ aside after → fixed new ≡ fixed ran → (x : Specialization) → IsFoundWhereEqual began (env_forest began.context.trees env) (table_of ran) p.second x
+    → (Leaks (state old).newest_universe after → ⊥) → state began ≡ aside after → fixed new ≡ fixed ran → (x : Specialization) → IsFoundWhereEqual began (env_forest began.context.trees env) (table_of ran) p.second x
     → IsFoundOfPair old (env_forest old.context.trees env) (table_of new) p x
-found-under old began ran new env p after g e known plain equal s f answer.Specializes h =
+found-under old began ran new env p after g e known plain equal kept s f answer.Specializes h =
     let E = (env-kept old.context began.context env g e).1 in
     let t : table_of ran ≡ table_of new = sym (ap (λ (y : Fixed). y.table) f) in
     let o = p.second in
@@ -160,13 +162,14 @@ found-under old began ran new env p after g e known plain equal s f answer.Speci
       no_alias = plain;
       after = after;
       equal = equal;
+      no_leak = kept;
       hold =
           all-said old.context began.context (env_forest old.context.trees env) (table_of new) (aside after) o g known.1
           (subst (λ (q : Env × GoalTable Via × State). AllHold q.0 began.context.trees q.1 q.2 (args_forest began.context.trees o.locals) o.wheres.items) (λ i. (E i, t i, s i)) h);
     }
-found-under old began ran new env p after g e known plain equal s f answer.Unlike h = h
-found-under old began ran new env p after g e known plain equal s f answer.NoInstance h = tt
-found-under old began ran new env p after g e known plain equal s f (answer.Unanswered n) h = tt
+found-under old began ran new env p after g e known plain equal kept s f answer.Unlike h = h
+found-under old began ran new env p after g e known plain equal kept s f answer.NoInstance h = tt
+found-under old began ran new env p after g e known plain equal kept s f (answer.Unanswered n) h = tt
 
 -- What is found of two open impls, by those that are declared.
 pub found-here : (old mid now : Evaluator) (a b : ImplId) (p : Pair) (env : Env) (T : GoalTable Via) → Grows old.context mid.context → Grows mid.context now.context → fixed now ≡ fixed old → state now ≡ state mid
@@ -194,6 +197,7 @@ found-here old mid now a b p env T g h f s o alike e answer.Specializes k =
           no_alias = subst (λ (q : Forest × Forest). HaveNoAlias q.0 q.1) (λ i. (x i, y i)) k.no_alias;
           equal = subst (λ (q : Fixed × State × Forest × Forest). accepted (judge_of q.0) q.1 env q.2 q.3 ≡ Some k.after) (λ i. (f i, u i, x i, y i)) k.equal;
         };
+        no_leak = λ l. k.no_leak (subst (λ (n : ℕ). Leaks n k.after) (sym (ap (λ (U : State). U.newest_universe) u ∙ opened-universe (entered S o.i) o.j)) l);
         hold = all-declared-with c now.context env T (aside k.after) (locals_of (entered S o.i) o.j) o.j p.second (grows-trans c mid.context now.context g h) second k.hold;
       };
     }
@@ -220,6 +224,7 @@ found-probed old began ran new a b cx f s g answer.Specializes h =
         is_env = subst (λ (q : Context × State). IsEnvironmentOf q.0 (entered_wheres q.0 q.1 i) k.env) (λ z. (cx z, s z)) k.is_env;
         after = k.after;
         instance = subst (λ (q : Fixed × Context × State). IsInstanceBy (judge_of q.0) q.1 q.2 k.env i j k.after) (λ z. (f z, cx z, s z)) k.instance;
+        no_leak = λ l. k.no_leak (subst (λ (U : State). Leaks (entered U i).newest_universe k.after) (sym s) l);
         hold = subst (λ (q : Context × GoalTable Via × State). AllHold k.env q.0.trees q.1 (aside k.after) (locals_of (entered q.2 i) j) j.wheres) (λ z. (cx z, t z, s z)) k.hold;
       };
     }

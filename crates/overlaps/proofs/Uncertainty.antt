@@ -20,14 +20,15 @@ use Rattle.candidate_eval.proofs.Dynamic.Objects.{env-kept}
 use Rattle.candidate_assembly.specs.Goals.TraitGoals.{trait_goal}
 use Rattle.candidate_rounds.specs.Evaluators.Interface.{Fixed, fixed, judge_of}
 use Rattle.candidate_rounds.specs.Evaluators.Known.{Evaluator, state, table_of}
+use Rattle.candidate_rounds.specs.Evaluators.Leaking.{Leaks}
 use Rattle.candidate_rounds.specs.Table.Goals.{Via}
 use Rattle.rounds_judge.specs.Table.GoalTable.{GoalTable}
 use Rattle.overlaps.specs.Answered.{is_outlives}
 use Rattle.overlaps.specs.Apart.{OfDeclared, aside, opened}
-use Rattle.overlaps.specs.Instance.{first_header, second_header}
+use Rattle.overlaps.specs.Instance.{first_header, second_header, unless_leaking}
 use Rattle.overlaps.specs.Opening.{AreOpened, IsOpenedOf}
 use Rattle.overlaps.specs.Refused.{AreOpen, IsOpen, MakesHeadersEqual, clause_at, headers_equated, locals_of}
-use Rattle.overlaps.specs.Uncertain.{EitherHoldsNot, HeadersHaveAlias, HoldsNot, HoldsNotAt, ImplHoldsNot, ImplsAreUncertain, IsUnanswered, IsUncertainWhereEqual, OneHoldsNot, PairIsUncertain, WhereUncertain, by_part, impls_have_alias, impls_have_clause, no_goal, no_plain_yes, pair_has_alias, pair_has_clause, says_else, unanswered}
+use Rattle.overlaps.specs.Uncertain.{EitherHoldsNot, HeadersHaveAlias, HoldsNot, HoldsNotAt, ImplHoldsNot, ImplsAreUncertain, IsUnanswered, IsUncertainWhereEqual, OneHoldsNot, PairIsUncertain, WhereUncertain, by_part, impls_have_alias, impls_have_clause, impls_leak, no_goal, no_plain_yes, pair_has_alias, pair_has_clause, pair_leaks, says_else, unanswered}
 use Rattle.overlaps.specs.declared.opening.Opened.{Opened}
 use Rattle.overlaps.specs.declared.opening.Pair.{Pair}
 use Rattle.overlaps.specs.declared.overlap.Overlap.{Overlap}
@@ -35,6 +36,7 @@ use Rattle.overlaps.specs.declared.overlap.Overlap.TheVariants as O
 use Rattle.overlaps.proofs.PureFolder.{StaysAsAsked}
 use Rattle.overlaps.proofs.AskedClauses.{AreClausesOf, clauses-kept}
 use Rattle.overlaps.proofs.Refusing.{got-fits, instance-kept}
+use Rattle.overlaps.proofs.Universes.{both-universe}
 
 pub of-not : (b : Bool) → not b ≡ false → b ≡ true
 of-not true e = refl
@@ -51,6 +53,15 @@ uncertain-weaker f O.NoCommonTrait p = tt
 uncertain-weaker f (O.Allowed w) p = tt
 uncertain-weaker f O.DisjointHeaders p = tt
 uncertain-weaker f (O.DisjointClause w) p = tt
+
+-- The same where nothing is certain since a region leaks.
+pub unless-uncertain : (P : Type 0) (leaks : Bool) (o : Overlap) → WhereUncertain P o → WhereUncertain ((leaks ≡ true) ⊎ P) (unless_leaking leaks o)
+unless-uncertain P false o h = uncertain-weaker (λ p. inr p) o h
+unless-uncertain P true (O.May x) h = λ e. inl refl
+unless-uncertain P true O.NoCommonTrait h = tt
+unless-uncertain P true (O.Allowed w) h = tt
+unless-uncertain P true O.DisjointHeaders h = tt
+unless-uncertain P true (O.DisjointClause w) h = tt
 
 -- By a context that comes after it is so by an earlier one.
 
@@ -140,8 +151,10 @@ where-equal-earlier c d T S p w known (inr h) = inr (either-earlier c d T S p w 
 
 -- In a probe that began where the headers were made equal, and that has ended.
 pub pair-uncertain : (old began ran new : Evaluator) (p : Pair) (after : State) → Grows old.context began.context → AreOpen old.context.trees p → headers_equated old p ≡ Some after
-    → state began ≡ aside after → fixed new ≡ fixed ran → IsUncertainWhereEqual began.context (table_of ran) (state began) p → PairIsUncertain old (table_of new) p
-pair-uncertain old began ran new p after w known equal s f h =
+    → state began ≡ aside after → fixed new ≡ fixed ran → (leaks : Bool) → (leaks ≡ true → Leaks (state old).newest_universe after)
+    → (leaks ≡ true) ⊎ IsUncertainWhereEqual began.context (table_of ran) (state began) p → PairIsUncertain old (table_of new) p
+pair-uncertain old began ran new p after w known equal s f leaks leak (inl e) = pair_leaks after equal (leak e)
+pair-uncertain old began ran new p after w known equal s f leaks leak (inr h) =
     let u : table_of ran ≡ table_of new = sym (ap (λ (x : Fixed). x.table) f) in
     at (where-equal-earlier old.context began.context (table_of new) (aside after) p w known (subst (λ (q : State × GoalTable Via). IsUncertainWhereEqual began.context q.1 q.0 p) (λ i. (s i, u i)) h))
   where
@@ -173,6 +186,12 @@ uncertain-declared old mid a b p U w same o h = record { i = o.i; j = o.j; first
         let f = o.first.header in
         let g = o.second.header in
         impls_have_alias (subst (λ (q : Forest × Forest). HeadersHaveAlias q.0 q.1) (λ i. (f i, g i)) alias)
+    at (pair_leaks after e l) =
+        let s = o.left_is in
+        let f = o.first.header in
+        let g = o.second.header in
+        impls_leak after (subst (λ (q : Fixed × State × Forest × Forest). accepted (judge_of q.0) q.1 none q.2 q.3 ≡ Some after) (λ i. (same i, s i, f i, g i)) e)
+        (subst (λ (u : ℕ). Leaks u after) (ap (λ (W : State). W.newest_universe) s ∙ both-universe (state old) o.i o.j) l)
     at (pair_has_clause after e n) =
         let s = o.left_is in
         let f = o.first.header in
@@ -195,6 +214,8 @@ uncertain-probed old began ran new S a b cx f s g h = record {
 
     at : ImplsAreUncertain began (state began) (table_of ran) h.i h.j → ImplsAreUncertain old S (table_of new) h.i h.j
     at (impls_have_alias alias) = impls_have_alias (subst (λ (q : Context × State). HeadersHaveAlias (first_header q.0 q.1 h.i h.j) (second_header q.0 q.1 h.i h.j)) (λ i. (cx i, s i)) alias)
+    at (impls_leak after e l) =
+        impls_leak after (subst (λ (q : Fixed × Context × State). MakesHeadersEqual (judge_of q.0) q.1 q.2 h.i h.j after) (λ i. (f i, cx i, s i)) e) (subst (λ (W : State). Leaks W.newest_universe after) s l)
     at (impls_have_clause after e n) =
         impls_have_clause after (subst (λ (q : Fixed × Context × State). MakesHeadersEqual (judge_of q.0) q.1 q.2 h.i h.j after) (λ i. (f i, cx i, s i)) e)
         (subst (λ (q : Context × State × GoalTable Via).

@@ -11,6 +11,7 @@ use Rattle.candidate_eval.specs.Judges.States.{Judge, State, resolved}
 use Rattle.candidate_assembly.specs.Answers.KnownImpls.{header_at}
 use Rattle.candidate_rounds.specs.Evaluators.Interface.{fixed, judge_of}
 use Rattle.candidate_rounds.specs.Evaluators.Known.{Evaluator, listing, state, table_of}
+use Rattle.candidate_rounds.specs.Evaluators.Leaking.{Leaks}
 use Rattle.candidate_rounds.specs.Table.Goals.{Via}
 use Rattle.rounds_judge.specs.Equations.Opening.{are_open}
 use Rattle.rounds_judge.specs.Obligations.Responding.{renumbered, with_numbers}
@@ -20,6 +21,8 @@ use Rattle.overlaps.specs.Apart.{aside, opened}
 use Rattle.overlaps.specs.Refused.{headers_equated, locals_of}
 use Rattle.overlaps.specs.declared.instance.CommonInstance.{CommonInstance}
 use Rattle.overlaps.specs.declared.opening.Pair.{Pair}
+use Rattle.overlaps.specs.declared.overlap.Overlap.{Overlap}
+use Rattle.overlaps.specs.declared.overlap.Overlap.TheVariants as O
 
 -- the trees with all values put in, and their variables numbered from 0 on then, in the order in which they first occur
 abbrev pub canonical_at : State → Forest → Forest
@@ -53,11 +56,23 @@ pub record IsInstanceWhereEqual (old new : Evaluator) (S : State) (p : Pair) (x 
   pub hold : x.is_certain ≡ true → BothHold old.context.trees (table_of new) S p
   pub no_alias : x.is_certain ≡ true → HaveNoAlias (args_forest old.context.trees p.first.header) (args_forest old.context.trees p.second.header)
 
--- The same where the headers are made equal first, with nothing pending then.
+-- An answer, told whether the equation of two headers leaks a region: then no instance is certain.
+
+abbrev pub unless_leaking : Bool → Overlap → Overlap
+unless_leaking false o = o
+unless_leaking true (O.May x) = O.May (record { trait_ref = x.trait_ref; is_certain = false })
+unless_leaking true o = o
+
+abbrev pub IsCertainUnless : Bool → Overlap → Type 0
+IsCertainUnless leaks (O.May x) = x.is_certain ≡ true → leaks ≡ false
+IsCertainUnless leaks _ = Unit {0}
+
+-- The same where the headers are made equal first, with nothing pending then; where it is certain, no region leaks that a binder of them binds.
 pub record IsInstanceOfPair (old new : Evaluator) (p : Pair) (x : CommonInstance) : Type 0 where
   pub after : State
   pub equal : CountAsEqual (are_open (listing old) (state old)) (headers_equated old p) (state old) (args_forest old.context.trees p.first.header) (args_forest old.context.trees p.second.header) after
   pub at : IsInstanceWhereEqual old new (aside after) p x
+  pub no_leak : x.is_certain ≡ true → Leaks (state old).newest_universe after → ⊥
 
 -- the headers of two impls at a state, with fresh variables for the parameters of both; and what their equation leaves
 
@@ -78,7 +93,8 @@ pub record BothImplsHold (c : Context) (T : GoalTable Via) (S after : State) (i 
   pub second : AllHold none c.trees T after (locals_of (opened S i) j) j.wheres
 
 -- At that state of an evaluator: both are impls of one trait, and the reference is the first header where their headers count as equal, and
--- are one. Where it is certain, both impls hold of it by the table that is left, with nothing pending.
+-- are one. Where it is certain, both impls hold of it by the table that is left, with nothing pending, and no region leaks that a binder of the
+-- headers binds.
 pub record IsCommonInstance (old : Evaluator) (S : State) (new : Evaluator) (x : CommonInstance) (i j : Impl) : Type 0 where
   pub one_trait : i.trait_ref.def_id ≡ j.trait_ref.def_id
   pub after : State
@@ -86,3 +102,4 @@ pub record IsCommonInstance (old : Evaluator) (S : State) (new : Evaluator) (x :
   pub one : AreOneAt after (first_header old.context S i j) (second_header old.context S i j)
   pub is : IsReferenceAt (aside after) i.trait_ref.def_id (first_header old.context S i j) new.context.trees x.trait_ref
   pub certain : x.is_certain ≡ true → BothImplsHold old.context (table_of new) S (aside after) i j
+  pub no_leak : x.is_certain ≡ true → Leaks S.newest_universe after → ⊥

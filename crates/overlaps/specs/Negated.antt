@@ -21,6 +21,7 @@ use Rattle.candidate_eval.specs.Judges.States.{Env, Judge, State}
 use Rattle.candidate_assembly.specs.Answers.KnownImpls.{kinds_of_impl}
 use Rattle.candidate_rounds.specs.Evaluators.Interface.{fixed, judge_of}
 use Rattle.candidate_rounds.specs.Evaluators.Known.{Evaluator, state}
+use Rattle.candidate_rounds.specs.Evaluators.Leaking.{Leaks}
 use Rattle.candidate_rounds.specs.Table.Goals.{Via}
 use Rattle.rounds_judge.specs.Table.GoalTable.{GoalTable, verdict_in}
 use Rattle.rounds_judge.specs.Table.Keys.{key_at}
@@ -132,10 +133,11 @@ pub record IsNegatedFrom (r : Evaluator) (after : State) (placeholders : Forest 
   pub is_env : IsEnvironmentAt r.context plugged p.first env
   pub negated : IsNegatedAt env r.context T plugged (args_forest r.context.trees p.second.locals) p.second.wheres.items number
 
--- The same, once their headers were made equal.
+-- The same, once their headers were made equal, and no region leaks that a binder of them binds.
 pub record IsNegatedOfPair (r : Evaluator) (placeholders : Forest × Forest) (T : GoalTable Via) (p : Pair) (number : ℕ) : Type 0 where
   pub after : State
   pub equal : headers_equated r p ≡ Some after
+  pub no_leak : Leaks (state r).newest_universe after → ⊥
   pub from : IsNegatedFrom r after placeholders T p number
 
 -- The state in which placeholders of fresh universes stand for the parameters of both, before these have variables.
@@ -151,11 +153,12 @@ abbrev pub variables_of : State → Impl → Impl → Forest × Forest
 variables_of S i j = (locals_of S i, locals_of (opened S i) j)
 
 -- At that state of an evaluator, of the second impl this where clause is known not to hold where the first one does, of whatever both are instances.
--- Their headers were made equal, and the variables of both that are left became placeholders, each its own. Under the first one's where clauses with
+-- Their headers were made equal, where no region leaks, and the variables of both that are left became placeholders, each its own. Under the first one's where clauses with
 -- all values put in, and all that these imply, the clause implies one of which the opposite is answered.
 pub record IsNegatedBy (old : Evaluator) (S : State) (T : GoalTable Via) (number : ℕ) (i j : Impl) : Type 0 where
   pub after : State
   pub equal : MakesHeadersEqual (judge_of (fixed old)) old.context (with_names S i j) i j after
+  pub no_leak : Leaks (with_names S i j).newest_universe after → ⊥
   pub plugged : State
   pub leads : BothArePlugged (judge_of (fixed old)) after (variables_of (with_names S i j) i j) (names_of S i j) plugged
   pub env : Env

@@ -14,6 +14,7 @@ use Rattle.candidate_assembly.specs.Answers.KnownImpls.{header_at, header_of, ki
 use Rattle.candidate_eval.specs.Dynamic.Required.{each_of}
 use Rattle.candidate_rounds.specs.Evaluators.Interface.{fixed, judge_of}
 use Rattle.candidate_rounds.specs.Evaluators.Known.{Evaluator, state, table_of}
+use Rattle.candidate_rounds.specs.Evaluators.Leaking.{Leaks}
 use Rattle.candidate_rounds.specs.Table.Goals.{Via}
 use Rattle.rounds_judge.specs.Table.GoalTable.{GoalTable}
 use Rattle.overlaps.specs.Answered.{AllHold}
@@ -63,13 +64,14 @@ pub record IsInstanceBy (J : Judge) (c : Context) (S : State) (env : Env) (i j :
   pub equal : accepted J (opened (entered S i) j) env (open_header c (entered S i) j) (entered_header c S i) ≡ Some after
 
 -- At that state of an evaluator the first impl specialises the second one. They are alike; under the environment of the first one's where clauses
--- its header is an instance of the other's; and there each where clause of the other holds by the table, with nothing pending.
+-- its header is an instance of the other's, where no region leaks that a binder of them binds; and there each where clause of the other holds by the table, with nothing pending.
 pub record Specializes (old : Evaluator) (S : State) (T : GoalTable Via) (i j : Impl) : Type 0 where
   pub alike : AreAlike i j
   pub env : Env
   pub is_env : IsEnvironmentOf old.context (entered_wheres old.context S i) env
   pub after : State
   pub instance : IsInstanceBy (judge_of (fixed old)) old.context S env i j after
+  pub no_leak : Leaks (entered S i).newest_universe after → ⊥
   pub hold : AllHold env old.context.trees T (aside after) (locals_of (entered S i) j) j.wheres
 
 -- What an answer says of two impls, with nothing pending.
@@ -95,6 +97,7 @@ pub record PairSpecializes (r : Evaluator) (env : Env) (T : GoalTable Via) (p : 
   pub no_alias : HaveNoAlias (args_forest r.context.trees p.second.header) (args_forest r.context.trees p.first.header)
   pub after : State
   pub equal : accepted (judge_of (fixed r)) (state r) env (args_forest r.context.trees p.second.header) (args_forest r.context.trees p.first.header) ≡ Some after
+  pub no_leak : Leaks (state r).newest_universe after → ⊥
   pub hold : AllHold env r.context.trees T (aside after) (args_forest r.context.trees p.second.locals) p.second.wheres.items
 
 abbrev pub IsFoundOfPair : Evaluator → Env → GoalTable Via → Pair → Specialization → Type 0

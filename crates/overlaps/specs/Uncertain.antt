@@ -12,6 +12,7 @@ use Rattle.candidate_eval.specs.Judges.States.{Env, State}
 use Rattle.candidate_rounds.specs.Calls.Standing.{stands_at}
 use Rattle.candidate_rounds.specs.Evaluators.Interface.{fixed, judge_of}
 use Rattle.candidate_rounds.specs.Evaluators.Known.{Evaluator, state}
+use Rattle.candidate_rounds.specs.Evaluators.Leaking.{Leaks}
 use Rattle.candidate_rounds.specs.Table.Goals.{Via}
 use Rattle.rounds_judge.specs.Table.GoalTable.{GoalTable, verdict_in}
 use Rattle.rounds_judge.specs.Table.Keys.{key_at}
@@ -68,14 +69,17 @@ HeadersHaveAlias f g = holds is_alias f || holds is_alias g ≡ true
 abbrev pub IsUncertainWhereEqual : Context → GoalTable Via → State → Pair → Type 0
 IsUncertainWhereEqual c T S p = HeadersHaveAlias (args_forest c.trees p.first.header) (args_forest c.trees p.second.header) ⊎ EitherHoldsNot c T S p
 
--- Why it isn't of two open impls: an alias stands in a header; or, where these were made equal, a clause isn't certain by the table that is left.
+-- Why it isn't of two open impls: an alias stands in a header; or, where these were made equal, a region leaks, which a binder of them binds, or a
+-- clause isn't certain by the table that is left.
 pub data PairIsUncertain (old : Evaluator) (U : GoalTable Via) (p : Pair) : Type 0 where
   pair_has_alias : HeadersHaveAlias (args_forest old.context.trees p.first.header) (args_forest old.context.trees p.second.header) → PairIsUncertain old U p
+  pair_leaks : (after : State) → headers_equated old p ≡ Some after → Leaks (state old).newest_universe after → PairIsUncertain old U p
   pair_has_clause : (after : State) → headers_equated old p ≡ Some after → EitherHoldsNot old.context U (aside after) p → PairIsUncertain old U p
 
 -- The same of two declared impls, opened at that state.
 pub data ImplsAreUncertain (old : Evaluator) (S : State) (U : GoalTable Via) (i j : Impl) : Type 0 where
   impls_have_alias : HeadersHaveAlias (first_header old.context S i j) (second_header old.context S i j) → ImplsAreUncertain old S U i j
+  impls_leak : (after : State) → MakesHeadersEqual (judge_of (fixed old)) old.context S i j after → Leaks S.newest_universe after → ImplsAreUncertain old S U i j
   impls_have_clause : (after : State) → MakesHeadersEqual (judge_of (fixed old)) old.context S i j after
       → OneHoldsNot none old.context U (aside after) (locals_of S i) i.wheres ⊎ OneHoldsNot none old.context U (aside after) (locals_of (opened S i) j) j.wheres
       → ImplsAreUncertain old S U i j

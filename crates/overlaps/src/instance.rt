@@ -22,9 +22,9 @@ pub struct CommonInstance {
     /// on, in the order in which they first occur. Where an alias stands in one of the headers, and aliases aren't open, it is that
     /// header as it is.
     pub trait_ref: TraitRef,
-    /// Whether both impls are known to hold of it: no alias stands in the headers, and each where clause of both is answered by a Yes
-    /// that gives no variable a value, save those of what outlives what, which are assumed. It isn't certain where a clause is of a
-    /// projection, or its trait may lead to an auto trait with an impl for some types of a head alone.
+    /// Whether both impls are known to hold of it: no alias stands in the headers, their equation leaks no region, and each where clause
+    /// of both is answered by a Yes that gives no variable a value, save those of what outlives what, which are assumed. It isn't certain
+    /// where a clause is of a projection, or its trait may lead to an auto trait with an impl for some types of a head alone.
     pub is_certain: bool,
 }
 

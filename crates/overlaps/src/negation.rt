@@ -387,8 +387,13 @@ fn negated_of_pair(
     if have_aliases(rounds.cx(), pair) {
         return Ok(None);
     }
+    let above = rounds.newest_universe();
     let env = rounds.mk_param_env(&[])?;
     if !make_equal(rounds, env, pair.first.header, pair.second.header)? {
+        return Ok(None);
+    }
+    let leaks = rounds.leaks_above(alloc, above)?;
+    if leaks {
         return Ok(None);
     }
     negated_where_equal(alloc, rounds, env, pair, placeholders, count)
@@ -445,8 +450,8 @@ fn negated_aside(
 /// first, and then the other way round; of each impl the first such clause counts. In no program in which positive and negative impls don't
 /// overlap both impls hold of one reference then.
 ///
-/// `None` comes where there is none, where the numbers aren't those of two impls of one trait, where their headers can't be made equal, and where
-/// an alias stands in one of them. The mode is the evaluator's; rustc asks outside coherence, since in coherence no negative goal is known that
+/// `None` comes where there is none, where the numbers aren't those of two impls of one trait, where their headers can't be made equal or their
+/// equation leaks a region (`impls_overlap`), and where an alias stands in one of them. The mode is the evaluator's; rustc asks outside coherence, since in coherence no negative goal is known that
 /// another crate might make false. All that is known, what is pending and the open probes stay, whatever is answered; the table has what the
 /// rounds have found. The stops are those of `impls_overlap`.
 pub fn kept_apart_by_negation(

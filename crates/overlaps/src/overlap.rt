@@ -1,6 +1,6 @@
 //! Two impls of a trait overlap where a reference may be an instance of both.
 
-ghost use Rattle.std.specs.Prelude.{◌≡◌, ◌<◌, ◌||◌, ◌↔◌, [], None, Some, false, true, IfErr, IfOk, IfSome};
+ghost use Rattle.std.specs.Prelude.{◌≡◌, ◌<◌, ◌⊎◌, ◌||◌, ◌↔◌, [], None, Some, false, true, IfErr, IfOk, IfSome};
 ghost use Rattle.ir_trees.specs.Syntax.Trees.{holds, is_alias, none};
 ghost use Rattle.ir_trees.specs.Syntax.Words.{IsParamEnv, args_forest, env_forest};
 ghost use Rattle.candidate_rounds.specs.Evaluators.Known.{listing, state, table_of};
@@ -11,7 +11,7 @@ ghost use Rattle.overlaps.specs.Answered.{BothHold};
 ghost use Rattle.overlaps.specs.Apart.{AreOfOneTrait, AreOfOtherTraits, OfDeclared, aside};
 ghost use Rattle.overlaps.specs.Asked.{BothStay, ClausesBeforeWereAsked, ClausesWereAsked, OfClause, PairWasAsked, PairWasAskedBefore, StayBefore, WereAsked, WereAskedBefore, WhereMay};
 ghost use Rattle.overlaps.specs.Found.{IsFoundAt, IsFoundOfPair, IsFoundWhereEqual, IsNotAllowed, IsOverlap};
-ghost use Rattle.overlaps.specs.Instance.{HaveNoAlias};
+ghost use Rattle.overlaps.specs.Instance.{HaveNoAlias, IsCertainUnless, unless_leaking};
 ghost use Rattle.overlaps.specs.Stopping.{IsOverlapStop};
 ghost use Rattle.overlaps.specs.Refused.{AreDecided, AreOpen, RefusesOfPair, StaysBesideKnown};
 ghost use Rattle.overlaps.specs.Uncertain.{ImplsAreUncertain, IsUncertain, IsUncertainWhereEqual, PairIsUncertain, WhereUncertain};
@@ -175,6 +175,47 @@ fn overlap_where_equal(
     Ok(Overlap::May(instance))
 }
 
+/// The answer, which isn't certain where the headers' equation leaks a region.
+fn unless_leaking(answer: Overlap, leaks: bool) -> Overlap
+    ensures { result ≡ unless_leaking leaks answer }
+{
+    if !leaks {
+        return answer;
+    }
+    match answer {
+        Overlap::May(CommonInstance { trait_ref, .. }) => Overlap::May(CommonInstance {
+            trait_ref,
+            is_certain: false,
+        }),
+        answer => answer,
+    }
+}
+
+/// Whether two open impls overlap, whose headers are equal, told whether their equation leaks a region: then nothing is certain.
+fn overlap_unless_leaking(
+    alloc: Global,
+    rounds: &mut Rounds,
+    env: ParamEnv,
+    pair: &Pair,
+    count: u16,
+    leaks: bool,
+) -> Result<Overlap, Stop>
+    requires some { 0 < count }
+    requires env { IsParamEnv rounds.old.context.trees env }
+    requires empty { env_forest rounds.old.context.trees env ≡ none }
+    requires pending { (state rounds.old).pending ≡ [] }
+    requires pair { AreOpen rounds.old.context.trees pair.now }
+    ensures stays { StaysBesideTable rounds.old rounds.new }
+    ensures is { IfOk result (λ o. IsFoundWhereEqual rounds.old rounds.new pair.now o × IsCertainUnless leaks o) }
+    ensures asked { let r = rounds.old in IfOk result (WhereMay (BothStay r (state r) count pair.now (table_of r) (table_of rounds.new))) }
+    ensures before { let r = rounds.old in IfOk result (OfClause (StayBefore r (state r) count pair.now (table_of r))) }
+    ensures uncertain { let r = rounds.old in IfOk result (WhereUncertain ((leaks ≡ true) ⊎ IsUncertainWhereEqual r.context (table_of rounds.new) (state r) pair.now)) }
+    ensures cause { IfErr result (IsOverlapStop rounds.old rounds.new) }
+{
+    let answer = overlap_where_equal(alloc, rounds, env, pair, count)?;
+    Ok(unless_leaking(answer, leaks))
+}
+
 /// Whether two open impls overlap, whose headers are made equal. What that leaves pending is set aside then.
 fn overlap_of_pair(
     alloc: Global,
@@ -196,12 +237,14 @@ fn overlap_of_pair(
         let instance = common_instance(alloc, rounds, &pair.first, false)?;
         return Ok(Overlap::May(instance));
     }
+    let above = rounds.newest_universe();
     let env = rounds.mk_param_env(&[])?;
     if !make_equal(rounds, env, pair.first.header, pair.second.header)? {
         return Ok(Overlap::DisjointHeaders);
     }
+    let leaks = rounds.leaks_above(alloc, above)?;
     let aside = rounds.begin_probe(ProbeKind::SetAside)?;
-    let answer = overlap_where_equal(alloc, rounds, env, pair, count);
+    let answer = overlap_unless_leaking(alloc, rounds, env, pair, count, leaks);
     rounds.end_probe(aside);
     answer
 }
@@ -306,8 +349,11 @@ fn overlap_of_ordered(
 /// the contract has: it says nothing of a trait; in coherence nothing is decided by its goal; in another mode the goal was run, if it stands;
 /// or the goal was run for so many rounds, and then had an answer, or was refused where a variable stands in it and it may lead to an auto
 /// trait with an impl that bars no head, or to unsizing. No clause is asked where the headers' equation decides nothing. Where it is
-/// `DisjointClause`, each clause before that one was asked, and stays in the same way. Where it is uncertain, an alias stands in a header, or
-/// the contract names a clause and why the table doesn't make it certain.
+/// `DisjointClause`, each clause before that one was asked, and stays in the same way. Where it is uncertain, an alias stands in a header, a
+/// region leaks, or the contract names a clause and why the table doesn't make it certain.
+///
+/// A region leaks where the headers are equal if a placeholder, which stands for a region that a binder of them binds, stands in the value of
+/// a variable that can't name it, or has to outlive `'static`, another placeholder or a variable of an older universe. Nothing is certain then.
 ///
 /// All that is known, what is pending and the open probes stay, whatever is answered; the table has what the rounds have found. The stops
 /// are those of growing a list, of making nodes and of the evaluator, and those of `Rounds::run` and `compute_trait_goal`.

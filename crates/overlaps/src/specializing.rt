@@ -244,7 +244,12 @@ fn specializes_under(
     if have_aliases(rounds.cx(), pair) {
         return Ok(Specialization::NoInstance);
     }
+    let above = rounds.newest_universe();
     if !make_equal(rounds, env, pair.second.header, pair.first.header)? {
+        return Ok(Specialization::NoInstance);
+    }
+    let leaks = rounds.leaks_above(alloc, above)?;
+    if leaks {
         return Ok(Specialization::NoInstance);
     }
     let aside = rounds.begin_probe(ProbeKind::SetAside)?;
@@ -283,7 +288,7 @@ fn specializes_here(
 /// leads to no auto trait with an impl for some types of a head alone. A clause that says what outlives what is assumed.
 ///
 /// `Unlike` comes where the numbers aren't those of two impls of one trait with one polarity, `NoInstance` where the headers can't be made
-/// equal, or an alias stands in one of them, and `Unanswered` of the first clause that isn't known to hold, as none of a projection is.
+/// equal, their equation leaks a region (`impls_overlap`), or an alias stands in one of them, and `Unanswered` of the first clause that isn't known to hold, as none of a projection is.
 ///
 /// The mode in which goals are asked for is the evaluator's; rustc asks outside coherence. All that is known, what is pending and the open
 /// probes stay, whatever is answered; the table has what the rounds have found. The stops are those of `impls_overlap`.

@@ -13,16 +13,17 @@ use ir_trees::ir::kinds::{AliasKind, AliasTy, GenericArg, Ty};
 use ir_trees::ir::marks::{Made, Unsolved};
 use ir_trees::ir::trees::Trees;
 
-/// Whether the type means the same at every state.
+/// Whether the type means the same at every state, and has no error.
 fn is_fixed(cx: &Cx, ty: Ty) -> bool
     requires { IsTy cx.now.trees ty }
     ensures { result ≡ is_fixed (ty_tree cx.now.trees ty) }
 {
-    !cx.has_escaping_bound_vars(ty) && (!cx.has_marked(ty, &Made) && !cx.has(ty, Flag::Param))
+    !cx.has_escaping_bound_vars(ty)
+        && (!cx.has_marked(ty, &Made) && (!cx.has(ty, Flag::Param) && !cx.has(ty, Flag::Error)))
 }
 
-/// Whether the alias may be listed with that type: no bound variable escapes from either, neither has a variable, a parameter or
-/// a placeholder of a universe above the root's, and the type has no alias.
+/// Whether the alias may be listed with that type: no bound variable escapes from either, neither has a variable, a parameter, an
+/// error or a placeholder of a universe above the root's, and the type has no alias. By an error every trait would hold of the type.
 pub fn may_be_listed(cx: &Cx, alias: Ty, ty: Ty) -> bool
     requires alias { IsTy cx.now.trees alias }
     requires ty { IsTy cx.now.trees ty }

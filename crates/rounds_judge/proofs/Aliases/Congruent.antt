@@ -18,7 +18,7 @@ use Rattle.candidate_eval.specs.Judges.Soundness.{Live, IsSound, ValuesFit, IsLa
 use Rattle.candidate_eval.proofs.Marks.Holds.{holds_parts, holds_imply}
 use Rattle.rounds_judge.specs.Aliases.Listed.{Listing}
 use Rattle.rounds_judge.specs.Equations.Standing.{IsListing, IsFixed, IsListed, is_made}
-use Rattle.rounds_judge.specs.Aliases.Congruence.{Same, same, heads, regions, pair, back, along}
+use Rattle.rounds_judge.specs.Aliases.Congruence.{AreListed, Same, same, heads, regions, pair, back, along}
 use Rattle.rounds_judge.proofs.States.Marks.{valued_node, fold_marked}
 use Rattle.rounds_judge.proofs.States.Later.{has_info, kind_there, value_known, strange_stays, value_as_of}
 
@@ -66,6 +66,12 @@ instance_region i _ e = cc
 pub listed_pair : (l : Listing) → IsListing l → (p : Tree × Tree) → Contains l.pairs p → IsListed p
 listed_pair l listing p c = All-contains IsListed l.pairs p listing c
 
+-- it has no error, so that it counts
+pub pair_counts : (l : Listing) → IsListing l → (p : Tree × Tree) → Contains l.pairs p → AreListed l p.0 p.1
+pair_counts l listing p c =
+    let f = listed_pair l listing p c in
+    record { is_among = c; alias_has_no_error = f.alias.no_error; type_has_no_error = f.type.no_error }
+
 module _ (l : Listing) (listing : IsListing l) (i : Instance) where
   -- Values of types and constants keep what is equal.
   pub same_instance : (a b : Forest) → Same l a b → Same l (valued (instance i) a) (valued (instance i) b)
@@ -80,7 +86,7 @@ module _ (l : Listing) (listing : IsListing l) (i : Instance) where
       (regions g h (valued (instance i) a) (valued (instance i) b) e f (same_instance r s x)))
   same_instance _ _ (pair t u {r = r} {s = s} c x) =
       let p : Tree × Tree = (t, u) in
-      let f = listed_pair l listing p c in
+      let f = listed_pair l listing p c.is_among in
       same_to l (begin p.0 (valued (instance i) r)) (begin p.1 (valued (instance i) s)) (begin (valued_tree (instance i) p.0) (valued (instance i) r)) (begin (valued_tree (instance i) p.1) (valued (instance i) s))
       (ap (λ t. begin t (valued (instance i) r)) (sym (fixed_stays (instance i) (instance_free i) p.0 f.alias))) (ap (λ t. begin t (valued (instance i) s)) (sym (fixed_stays (instance i) (instance_free i) p.1 f.type)))
       (pair t u c (same_instance r s x))

@@ -32,7 +32,7 @@ use Rattle.rounds_judge.proofs.States.Later.{known_later, later_along, no_value,
 use Rattle.rounds_judge.proofs.States.Bound.{value_given, known_bound}
 use Rattle.rounds_judge.proofs.Equations.Current.{WhichListed, is_type, itself, which_listed, root_at, root_known, fixed_unvalued, placed_is}
 use Rattle.rounds_judge.proofs.Equations.Looks.{same_left, meets, left_known, right_known, x_known, y_known, left_takes, right_takes, visited_keeps, looked_keeps, start_stands}
-use Rattle.rounds_judge.proofs.Aliases.Congruent.{same_to, same_node, fixed_stays, listed_pair, region_value}
+use Rattle.rounds_judge.proofs.Aliases.Congruent.{same_to, same_node, fixed_stays, listed_pair, pair_counts, region_value}
 
 -- Rows, one after another
 
@@ -85,7 +85,7 @@ module _ (l : Listing) (listing : IsListing l) (U : State) (L : Live) (fits : Va
       same_to l (alone k.of.0) (alone k.of.1) (resolved U (alone t)) (resolved U (alone u))
       (ap alone (sym (fixed_stays (value_at U) unmade_free k.of.0 f.alias)) ∙ ap (λ x. resolved U (alone x)) k.alias)
       (ap alone (sym (fixed_stays (value_at U) unmade_free k.of.1 f.type)) ∙ ap (λ x. resolved U (alone x)) k.type)
-      (pair k.of.0 k.of.1 k.there (same none))
+      (pair k.of.0 k.of.1 (pair_counts l listing k.of k.there) (same none))
 
   -- answers that are equal to what they stand for
   pub fold_same : (f : Answers) → ((d : ℕ) (t x : Tree) → f d t ≡ Some x → Same l (resolved U (alone t)) (resolved U (alone x))) → (d : ℕ) (ts : Forest) → Same l (resolved U ts) (resolved U (fold f d ts))

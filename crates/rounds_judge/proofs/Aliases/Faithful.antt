@@ -134,7 +134,7 @@ regions_alone _ _ (regions g h a b {r = r} {s = s} e f x) = one g a (bare r) e �
     one : (h : Head) (below rest : Forest) → is_region h ≡ true → tree (erased_head h) (if is_region h then none else bare below) rest ≡ tree (H.Region R.Static) none rest
     one (H.Region k) below rest e = refl
     one _ below rest e = cc
-regions_alone _ _ (pair t u {r = r} {s = s} c x) = absurd (no_less c.0 c.1)
+regions_alone _ _ (pair t u {r = r} {s = s} c x) = absurd (no_less c.is_among.0 c.is_among.1)
   where
     no_less : (k : ℕ) → k < 0 → ⊥
     no_less k h = omega (arith, h)

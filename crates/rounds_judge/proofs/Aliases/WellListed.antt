@@ -3,7 +3,9 @@ use Rattle.std.proofs.Common.{◌≡◌, Bool, List, true, false, not, [], ◌�
 use Rattle.std.specs.List.{All}
 use Rattle.std.proofs.lemmas.Bool.{and_parts, not-true}
 use Rattle.std.proofs.lemmas.List.Elements.{All-cons, All-head, All-nil, All-tail}
+use Rattle.ir_trees.specs.declared.ir.heads.Flag.TheVariants as F
 use Rattle.ir_trees.specs.Syntax.Binders.{escapes}
+use Rattle.ir_trees.specs.Syntax.Flags.{mark}
 use Rattle.ir_trees.specs.Unification.Substitutions.{alone}
 use Rattle.ir_trees.specs.Syntax.Trees.{Tree, holds, is_alias, is_param, is_type}
 use Rattle.rounds_judge.specs.Aliases.Listed.{Listing}
@@ -14,10 +16,16 @@ fixed-is : (t : Tree) → is_fixed t ≡ true → IsFixed t
 fixed-is t e =
     let p = and_parts (not (escapes 0 (alone t))) _ e in
     let q = and_parts (not (holds is_made (alone t))) _ p.1 in
-    record { is_closed = not-true (escapes 0 (alone t)) p.0; not_made = not-true (holds is_made (alone t)) q.0; no_parameter = not-true (holds is_param (alone t)) q.1 }
+    let r = and_parts (not (holds is_param (alone t))) _ q.1 in
+    record {
+      is_closed = not-true (escapes 0 (alone t)) p.0;
+      not_made = not-true (holds is_made (alone t)) q.0;
+      no_parameter = not-true (holds is_param (alone t)) r.0;
+      no_error = not-true (holds (mark F.Error) (alone t)) r.1;
+    }
 
 is-fixed : (t : Tree) → IsFixed t → is_fixed t ≡ true
-is-fixed t f = rw (f.is_closed, f.not_made, f.no_parameter) refl
+is-fixed t f = rw (f.is_closed, f.not_made, f.no_parameter, f.no_error) refl
 
 listed-is : (p : Tree × Tree) → may_be_listed p ≡ true → IsListed p
 listed-is p e =

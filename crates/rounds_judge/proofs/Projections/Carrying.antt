@@ -218,7 +218,7 @@ module _ (l : Listing) (listing : IsListing l) (S T : State) (L M : Live) (sound
     pub one_onward : (t s : Tree) → AreOne Q l (universes S) e t s → SameBy (AreOne Q l (universes T) f) (alone (valued_tree (instance onward) t)) (alone (valued_tree (instance onward) s))
     one_onward t s (inl c) =
         let p : Tree × Tree = (t, s) in
-        let k = listed_pair l listing p c in
+        let k = listed_pair l listing p c.is_among in
         moved (AreOne Q l (universes T) f) (alone t) (alone s) _ _ (ap alone (sym (fixed_stays (instance onward) fixed_free t k.alias))) (ap alone (sym (fixed_stays (instance onward) fixed_free s k.type)))
         (pair t s (inl c) (same none))
     one_onward t s (inr a) =

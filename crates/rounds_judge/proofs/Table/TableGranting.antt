@@ -108,7 +108,7 @@ module _ (mark : Variable → Bool) where
     same_marked _ _ (regions g h a b {r = r} {s = s} e f x) = rw (no_region g e, no_region h f, e, f) (same_marked r s x)
     same_marked _ _ (pair t u {r = r} {s = s} c x) =
         let p : Tree × Tree = (t, u) in
-        let f = listed_pair l listing p c in
+        let f = listed_pair l listing p c.is_among in
         let a = holds_parts on p.0.head p.0.children none (holds_imply is_made on unmade (alone p.0) f.alias.not_made) in
         let b = holds_parts on p.1.head p.1.children none (holds_imply is_made on unmade (alone p.1) f.type.not_made) in
         rw (a.here, b.here, if_false (is_region p.0.head) on (pruned p.0.children) (pruned_marked on p.0.children a.under), if_false (is_region p.1.head) on (pruned p.1.children) (pruned_marked on p.1.children b.under))

@@ -1,7 +1,9 @@
 -- What holds of a state and of the pairs that are left, from one look to the next.
 use Rattle.std.specs.Prelude.{◌≡◌, ◌≤◌, true, false, Some, List, length}
 use Rattle.std.specs.List.{All}
+use Rattle.ir_trees.specs.declared.ir.heads.Flag.TheVariants as F
 use Rattle.ir_trees.specs.declared.ir.heads.Head.{Head}
+use Rattle.ir_trees.specs.Syntax.Flags.{mark}
 use Rattle.ir_trees.specs.Syntax.Trees.{Tree, holds, is_alias, is_param, is_type, erase}
 use Rattle.ir_trees.specs.Syntax.Binders.{escapes}
 use Rattle.ir_trees.specs.Unification.Substitutions.{Substitution, alone, apply}
@@ -12,11 +14,13 @@ use Rattle.rounds_judge.specs.Aliases.Listed.{Listing}
 use Rattle.rounds_judge.specs.Equations.Equating.{Pair}
 pub use Rattle.ir_trees.specs.Unification.Substitutions.{is_made}
 
--- A tree that means the same at every state: no bound variable escapes from it, it has no variable and no parameter, and its placeholders are of the root.
+-- A tree that means the same at every state, and one thing: no bound variable escapes from it, it has no variable, no parameter and no error, and
+-- its placeholders are of the root.
 pub record IsFixed (t : Tree) : Type 0 where
   pub is_closed : escapes 0 (alone t) ≡ false
   pub not_made : holds is_made (alone t) ≡ false
   pub no_parameter : holds is_param (alone t) ≡ false
+  pub no_error : holds (mark F.Error) (alone t) ≡ false
 
 -- A listed pair: an alias, and a type without aliases.
 pub record IsListed (p : Tree × Tree) : Type 0 where

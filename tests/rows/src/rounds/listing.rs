@@ -1,6 +1,10 @@
-//! The pairs that an evaluator is given: the associated types of `u8` and of `usize`, each beside `u16`.
+//! The pairs that an evaluator is given: the associated types of `u8` and of `usize`, each beside `u16`. And which pairs it may be given.
 
+use crate::notation::answers::{Answer, Item};
+use crate::notation::reader::Reader;
 use crate::notation::refusals::Refusal;
+use crate::notation::rows::Row;
+use crate::notation::typed::ty_at;
 use candidate_ir::decl::context::Cx;
 use candidate_ir::decl::make::Build;
 use candidate_ir::ir::kinds::{AliasTy, AssocId, GenericArg, Ty, TyKind, UintTy};
@@ -44,4 +48,16 @@ pub(crate) fn listed(alloc: Global, cx: &mut Cx, of: AssocId) -> Result<Vec<(Ty,
         return Err(Refusal::Condition);
     }
     Ok(Vec::from_slice(alloc, &[(of_byte, wide), (of_size, wide)])?)
+}
+
+/// Whether the row's first operand may be listed with its second one. `Refusal::Condition` comes where one of them is no type.
+pub(crate) fn answer<'a>(
+    reader: &mut Reader<'a>,
+    cx: &mut Cx,
+    row: Row<'a>,
+) -> Result<Answer, Refusal> {
+    let [alias, ty, _] = reader.operands(cx, row)?;
+    let alias = ty_at(cx, alias.node())?;
+    let ty = ty_at(cx, ty.node())?;
+    Ok(Answer::One(Item::Truth(may_be_listed(cx, alias, ty))))
 }

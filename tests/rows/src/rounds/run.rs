@@ -7,6 +7,7 @@ use crate::notation::reader::Reader;
 use crate::notation::refusals::Refusal;
 use crate::notation::rows::Row;
 use crate::rounds::asking::Evaluator;
+use crate::rounds::listing;
 use crate::rounds::words::refuse_unknown_over_context;
 use candidate_ir::decl::context::Cx;
 use kit::alloc::{AllocError, Global};
@@ -49,7 +50,10 @@ fn answered<'a>(
     row: Row<'a>,
 ) -> Result<Answer, Refusal> {
     refuse_unknown_over_context(row)?;
-    answer_in_context(reader, notes, cx, row)
+    match row.verb {
+        "may_be_listed" => listing::answer(reader, cx, row),
+        _ => answer_in_context(reader, notes, cx, row),
+    }
 }
 
 impl Phase {

@@ -7,7 +7,7 @@ use crate::notation::words::refuse_unknown;
 use kit::prelude::*;
 
 /// The verbs that ask what stands over a context: how many words behind each name or count something, and which others may stand behind these.
-const OVER_CONTEXT: [(&str, (usize, &str)); 24] = [
+const OVER_CONTEXT: [(&str, (usize, &str)); 25] = [
     ("rounds", (2, "")),
     ("list", (4, "")),
     ("used", (4, "")),
@@ -40,6 +40,7 @@ const OVER_CONTEXT: [(&str, (usize, &str)); 24] = [
             "plain refers_to_u8 fails_at_u8 stops_at_u16 holds changes",
         ),
     ),
+    ("may_be_listed", (0, "")),
     ("is_plain", (0, "")),
     ("is_local_or_fundamental", (0, "")),
     ("cell", (0, "auto sized meta_sized copy destruct")),

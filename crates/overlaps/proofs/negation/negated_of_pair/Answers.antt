@@ -1,13 +1,15 @@
-use Rattle.std.proofs.Common.{[], Some, ap, subst, sym, ◌∙◌}
+use Rattle.std.proofs.Common.{ℕ, [], Some, ap, subst, sym, ◌∙◌}
 use Rattle.std.proofs.lemmas.Result.{IfOk-weaker}
 use Rattle.ir_trees.specs.Declarations.Context.{Context}
 use Rattle.ir_trees.proofs.Growth.Kept.{args-kept, grows-trans}
 use Rattle.candidate_eval.proofs.Dynamic.Objects.{env-kept}
+use Rattle.candidate_eval.proofs.Interface.Accounts.{memory-somehow}
 use Rattle.candidate_eval.proofs.Interface.Unmade.{members-unmade}
 use Rattle.candidate_eval.specs.Interface.Accounts.StopsSomehow.{making}
 use Rattle.candidate_assembly.proofs.Calls.Causes.{so-err}
 use Rattle.candidate_rounds.specs.Evaluators.Interface.{Rest}
 use Rattle.candidate_rounds.specs.Evaluators.Known.{state, table_of}
+use Rattle.candidate_rounds.specs.Evaluators.Leaking.{Leaks}
 use Rattle.overlaps.specs.Refused.{AreOpen}
 use Rattle.overlaps.proofs.Negated.{negated-of-pair, some-weaker}
 use Rattle.overlaps.proofs.Pairs.{equated-as-made, pair-later}
@@ -43,6 +45,17 @@ returns-in_err-make_equal-clause-cause c = passed-on (IsOverlapStop c.args.round
 pub returns-then-not-branch-clause-stays : goal.returns-then-not-branch-clause-stays
 returns-then-not-branch-clause-stays c = known-then (known-made c.mk_param_env.ensures.made.kept c.mk_param_env.ensures.rest) (known-kept c.make_equal.ensures.kept)
 
+pub returns-in_err-leaks-clause-stays : goal.returns-in_err-leaks-clause-stays
+returns-in_err-leaks-clause-stays c = known-then (known-made c.mk_param_env.ensures.made.kept c.mk_param_env.ensures.rest) (known-kept c.make_equal.ensures.kept)
+
+pub returns-in_err-leaks-clause-cause : goal.returns-in_err-leaks-clause-cause
+returns-in_err-leaks-clause-cause c =
+    passed-on (IsOverlapStop c.args.rounds.now c.make_equal.new.ecx) c.from_residual-in_err-leaks.result c.in_err-leaks.field-0.0 c.from_residual-in_err-leaks.ensures.1
+    (asking-stop (later-then (later-known (known-made c.mk_param_env.ensures.made.kept c.mk_param_env.ensures.rest)) (later-kept c.make_equal.ensures.kept)) (memory-somehow c.in_err-leaks.ensures.cause))
+
+pub returns-then-leaks-clause-stays : goal.returns-then-leaks-clause-stays
+returns-then-leaks-clause-stays c = known-then (known-made c.mk_param_env.ensures.made.kept c.mk_param_env.ensures.rest) (known-kept c.make_equal.ensures.kept)
+
 pub negated_where_equal-requires-clause-env : goal.negated_where_equal-requires-clause-env
 negated_where_equal-requires-clause-env c = (env-kept _ _ c.in_ok-env.env c.make_equal.ensures.kept.grows c.in_ok-env.ensures.made.sort).0
 
@@ -70,8 +83,9 @@ returns-clause-negated c =
     let p = c.args.pair.now in
     let grows = grows-trans _ _ _ c.mk_param_env.ensures.made.kept c.make_equal.ensures.kept.grows in
     let equal = equated-as-made old mid c.in_ok-env.env p (Some (state now)) c.mk_param_env.ensures.made.kept c.mk_param_env.ensures.rest c.in_ok-env.ensures.made.tree c.requires.pair (c.in_ok-make_equal.ensures.equal c.if-not-branch.false) in
+    let kept : Leaks (state old).newest_universe (state now) → ⊥ = λ l. c.in_ok-leaks.ensures.no c.if-leaks.false (subst (λ (u : ℕ). Leaks u (state now)) (sym c.newest_universe-above.ensures) l) in
     let same = c.make_equal.ensures.kept.fixed_same ∙ ap (λ (x : Rest). x.fixed) c.mk_param_env.ensures.rest in
-    IfOk-weaker c.negated_where_equal.result _ _ (some-weaker (negated-of-pair old now p c.args.placeholders (table_of c.negated_where_equal.new.rounds) grows same c.requires.pair c.requires.first c.requires.second equal)) c.negated_where_equal.ensures.negated
+    IfOk-weaker c.negated_where_equal.result _ _ (some-weaker (negated-of-pair old now p c.args.placeholders (table_of c.negated_where_equal.new.rounds) grows same c.requires.pair c.requires.first c.requires.second equal kept)) c.negated_where_equal.ensures.negated
 
 pub returns-clause-cause : goal.returns-clause-cause
 returns-clause-cause c =

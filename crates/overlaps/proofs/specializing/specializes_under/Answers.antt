@@ -1,4 +1,4 @@
-use Rattle.std.proofs.Common.{◌≡◌, false, sym, subst, ◌∙◌}
+use Rattle.std.proofs.Common.{◌≡◌, ℕ, false, sym, subst, ◌∙◌}
 use Rattle.std.proofs.lemmas.Result.{IfOk-weaker}
 use Rattle.ir_trees.specs.Declarations.Context.{Context}
 use Rattle.ir_trees.specs.Syntax.Trees.{holds, is_alias}
@@ -8,6 +8,7 @@ use Rattle.candidate_eval.proofs.Dynamic.Objects.{env-kept}
 use Rattle.candidate_eval.proofs.Interface.Accounts.{memory-somehow}
 use Rattle.candidate_assembly.proofs.Calls.Causes.{so-err}
 use Rattle.candidate_rounds.specs.Evaluators.Known.{state}
+use Rattle.candidate_rounds.specs.Evaluators.Leaking.{Leaks}
 use Rattle.overlaps.specs.Refused.{AreOpen, StaysBesideKnown}
 use Rattle.overlaps.proofs.Pairs.{pair-later}
 use Rattle.overlaps.proofs.Specialized.{found-under}
@@ -33,6 +34,17 @@ returns-in_err-make_equal-clause-stays c = known-kept c.make_equal.ensures.kept
 
 pub returns-then-not-branch-clause-stays : goal.returns-then-not-branch-clause-stays
 returns-then-not-branch-clause-stays c = known-kept c.make_equal.ensures.kept
+
+pub returns-in_err-leaks-clause-stays : goal.returns-in_err-leaks-clause-stays
+returns-in_err-leaks-clause-stays c = known-kept c.make_equal.ensures.kept
+
+pub returns-in_err-leaks-clause-cause : goal.returns-in_err-leaks-clause-cause
+returns-in_err-leaks-clause-cause c =
+    passed-on (IsOverlapStop c.args.rounds.now c.make_equal.new.ecx) c.from_residual-in_err-leaks.result c.in_err-leaks.field-0.0 c.from_residual-in_err-leaks.ensures.1
+    (asking-stop (later-kept c.make_equal.ensures.kept) (memory-somehow c.in_err-leaks.ensures.cause))
+
+pub returns-then-leaks-clause-stays : goal.returns-then-leaks-clause-stays
+returns-then-leaks-clause-stays c = known-kept c.make_equal.ensures.kept
 
 pub returns-in_err-aside-clause-stays : goal.returns-in_err-aside-clause-stays
 returns-in_err-aside-clause-stays c = subst (StaysBesideKnown c.args.rounds.now) (sym c.in_err-aside.ensures.unchanged) (known-kept c.make_equal.ensures.kept)
@@ -61,10 +73,11 @@ returns-clause-is c =
     = subst (λ (x : Context). holds is_alias (args_forest x.trees p.first.header) ≡ false) c.cx.ensures (c.have_aliases.ensures.first c.if-have_aliases.false) in
     let no-other : holds is_alias (args_forest old.context.trees p.second.header) ≡ false
     = subst (λ (x : Context). holds is_alias (args_forest x.trees p.second.header) ≡ false) c.cx.ensures (c.have_aliases.ensures.second c.if-have_aliases.false) in
+    let kept : Leaks (state old).newest_universe (state c.make_equal.new.ecx) → ⊥ = λ l. c.in_ok-leaks.ensures.no c.if-leaks.false (subst (λ (u : ℕ). Leaks u (state c.make_equal.new.ecx)) (sym c.newest_universe-above.ensures) l) in
     IfOk-weaker c.specializes_where_equal-answer.result _ _
     (found-under old c.begin_probe.new.self c.specializes_where_equal-answer.new.rounds c.end_probe.new.self c.args.env p (state c.make_equal.new.ecx)
     (grows-trans _ _ _ c.make_equal.ensures.kept.grows c.begin_probe.ensures.grows) c.requires.env c.requires.pair (record { first = no-other; second = no-alias })
-    (c.in_ok-make_equal.ensures.equal c.if-not-branch.false) c.in_ok-aside.ensures.ok.0 c.end_probe.ensures.fixed)
+    (c.in_ok-make_equal.ensures.equal c.if-not-branch.false) kept c.in_ok-aside.ensures.ok.0 c.end_probe.ensures.fixed)
     c.specializes_where_equal-answer.ensures.is
 
 pub returns-in_err-make_equal-clause-cause : goal.returns-in_err-make_equal-clause-cause
