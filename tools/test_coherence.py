@@ -25,11 +25,12 @@ CLASH = "pub trait Show {}\nimpl Show for u8 {}\nimpl Show for u8 {}\n"
 PEACE = "pub trait Show {}\nimpl Show for u8 {}\nimpl Show for u16 {}\n"
 OTHER = re.compile(r"originates in the macro|, too$|^rustc alone reports this")  # notes that rustc's JSON doesn't have
 MODULES = re.compile(r"\b(?:\w+::)+")
+STATIC = re.compile(r"&'static ")  # a region that a text doesn't tell from others
 
 
 def plain(words):
-    """Words of rustc without the modules of what they name, which it shows or not by how many things have a name."""
-    return MODULES.sub("", words)
+    """Words of rustc without the modules of what they name, which it shows or not by how many things have a name, and without `'static`."""
+    return STATIC.sub("&", MODULES.sub("", words))
 
 
 def shown(message):
@@ -97,14 +98,14 @@ class Case(unittest.TestCase):
 class BesideRustc(Case):
     """The errors are those of rustc."""
 
-    def compare(self, name, count):
+    def compare(self, name, count, status=1):
         """Compares all messages of an example."""
         folder = self.example(name)
         command = [CARGO, "check", "--offline", "--message-format", "json", "--target-dir", os.path.join(self.cache, "check")]
         done = subprocess.run(command, cwd=folder, stdout=subprocess.PIPE, stderr=subprocess.PIPE, text=True, env=dict(os.environ, RUSTC_BOOTSTRAP="1"), check=False)
         lines = [json.loads(line) for line in done.stdout.splitlines()]
         said = [line["message"] for line in lines if line.get("reason") == "compiler-message" and line["message"]["code"]]
-        found = self.found_in(folder)
+        found = self.found_in(folder, status=status)
         self.maxDiff = None
         self.assertEqual(sorted(map(shown, found), key=str), sorted(map(shown, said), key=str))
         self.assertEqual(len(found), count)
@@ -121,6 +122,9 @@ class BesideRustc(Case):
 
     def test_negative(self):
         self.compare("negative", 1)
+
+    def test_lints(self):
+        self.compare("lints", 13, status=0)
 
 
 class Commands(Case):
@@ -300,6 +304,15 @@ class Packages(Case):
         done = self.run_in(folder, "-p", "three")
         self.assertEqual(done.returncode, 2)
         self.assertEqual(done.stderr.splitlines(), ["error: no package of the workspace is named `three`: there are one, macros, two"])
+
+    def test_allowed_lints(self):
+        impls = "pub trait Show {}\nimpl Show for fn(&u8) {}\nimpl Show for fn(&'static u8) {}\n"
+        told = self.package("told", {"src/lib.rs": impls})
+        found = self.found_in(told, status=0)
+        self.assertEqual([(message["level"], message["code"]["code"]) for message in found], [("warning", "coherence_leak_check")])
+        self.assertEqual(len(self.found_in(told, "--deny", "warnings")), 1)
+        files = {"src/lib.rs": "#![allow(coherence_leak_check)]\npub mod own;\n", "src/own.rs": impls}
+        self.assertEqual(self.found_in(self.package("allowed", files), status=0), [])
 
     def test_denied_lints(self):
         folder = self.package("denied", {"src/lib.rs": "#![deny(warnings, rustdoc::all)]\n//! [`nothing`] <b>\n" + CLASH})

@@ -7,14 +7,14 @@ from typing import Callable, Dict, List, Optional
 
 from cargo_coherence.ask.answers import Speller, closed_aliases, has_alias
 from cargo_coherence.ask.asking import Asker
-from cargo_coherence.ask.findings import drained
+from cargo_coherence.ask.findings import Finding, drained
 from cargo_coherence.ask.program import ask
 from cargo_coherence.ask.refusals import read_refusals
 from cargo_coherence.from_rustdoc.cargo_json import Made, Unit
 from cargo_coherence.from_rustdoc.rust_json import CrateJson, Unreadable, read_crate, told_error
 from cargo_coherence.from_rustdoc.toolchain import STD
 from cargo_coherence.kept import Kept, stamps
-from cargo_coherence.specialization.special import check
+from cargo_coherence.specialization.special import Checked, check
 from cargo_coherence.to_text.crates import number_crates, said, told_shared
 from cargo_coherence.to_text.report import Report
 from cargo_coherence.to_text.translate import Translator
@@ -22,6 +22,7 @@ from cargo_coherence.to_text.writer import lines, places
 from cargo_coherence.verdict.decide import Decider
 from cargo_coherence.verdict.diagnostics import Diagnostic
 from cargo_coherence.verdict.errors import Errors
+from cargo_coherence.verdict.leaking import is_allowed, leaking
 from cargo_coherence.verdict.sources import Sources
 
 
@@ -95,11 +96,19 @@ class Read:
         text = with_known_headers(program, self.text, self)
         checked = check(program, text, self.translator, self.made.root, all_crates)
         found = [finding for finding in checked.found if all_crates or finding.is_local()]
-        found, floods = drained(found)
+        found, floods = drained(self._with_leaks(program, checked, found))
         verdicts = Decider(program, checked, self.translator, self.speller).decide(found)
         sources = Sources(self.made.root)
         errors = Errors(sources, self.names, self.local.key, read_refusals(self.made.files[self.local.key]))
         return Result(self.made.local, sources, errors.diagnostics(verdicts, floods))
+
+    def _with_leaks(self, program: str, checked: Checked, found: List[Finding]) -> List[Finding]:
+        """The findings with those pairs that regions of binders alone keep apart."""
+        sources, root = Sources(self.made.root), self.made.local.target.source
+        leaks = leaking(program, checked, self.translator, self.speller)
+        told = {frozenset((leak.first.named.name, leak.second.named.name)) for leak in leaks}
+        rest = [finding for finding in found if finding.second is None or frozenset((finding.first.named.name, finding.second.named.name)) not in told]
+        return rest + [leak for leak in leaks if not is_allowed(leak, root, sources)]
 
     def asker(self, program: str, in_coherence: bool) -> Asker:
         """What answers goals."""

@@ -16,7 +16,7 @@ STOPPED = re.compile(r"impl (\w+) \(line \d+\)(?: and impl (\w+) \(line \d+\))?:
 
 @dataclass
 class Finding:
-    """One finding: its kind is `overlap`, `maybe`, `orphan`, `lint` or `stop`."""
+    """One finding: its kind is `overlap`, `maybe`, `orphan`, `lint`, `leak` or `stop`."""
 
     kind: str
     first: Impl
@@ -106,6 +106,8 @@ class Teller:
         first = told(finding.first)
         if finding.kind == "lint":
             return "%s: lint %s: %s" % (first, LINT, self.orphan(finding))
+        if finding.kind == "leak":
+            return "%s and %s are apart by regions of binders alone: at %s" % (first, told(finding.second), self.instance(finding))
         if finding.kind == "orphan":
             may = "may break the orphan rule" if finding.first.widened else "orphan rule"
             return "%s: %s: %s" % (first, may, self.orphan(finding))

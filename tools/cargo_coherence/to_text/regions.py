@@ -162,6 +162,17 @@ def without_binder(clause: Term) -> Term:
     return Term(clause.head, changed(clause, lambda outside, index: None).arguments, 0, clause.loses) if clause.binds else clause
 
 
+def has_bound(term: Term) -> bool:
+    """Whether a binder stands in the term that binds a region."""
+    return bool(term.binds) or any(map(has_bound, term.arguments))
+
+
+def erased(term: Term) -> Term:
+    """The term in which each region is the static one, so that no binder binds any."""
+    found = REFERENCE.match(term.head)
+    return Term(found.group(1) if found else term.head, tuple(map(erased, term.arguments)))
+
+
 def bound_outside(term: Term, depth: int = 0) -> Iterator[int]:
     """How far outside the regions are bound that a term doesn't bind itself: 0 is the innermost binder around it."""
     found = REFERENCE.match(term.head)

@@ -60,9 +60,15 @@ def _data_type_content(data_type: DataType) -> Iterator[str]:
         yield "sized %s %s" % (data_type.named.name, data_type.sized_by.words())
 
 
+def impl_line(written: Impl) -> str:
+    """The line that declares an impl."""
+    named = written.named
+    return "impl %d %s %s %s %s" % (named.crate, named.name, parameters(named.constants), written.sign, written.header.words())
+
+
 def _impl(written: Impl, for_check: bool) -> Iterator[str]:
     named = written.named
-    yield "impl %d %s %s %s %s" % (named.crate, named.name, parameters(named.constants), written.sign, written.header.words())
+    yield impl_line(written)
     for clause in map(without_binder, written.clauses) if for_check else written.clauses:
         yield "iwhere %s %s" % (named.name, clause.words())
     for value in written.values:

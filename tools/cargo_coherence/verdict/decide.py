@@ -20,16 +20,18 @@ OPEN = re.compile(r"  because impl (\w+): (.*) is open: (.*)$")
 HEADER = re.compile(r"  because an alias stands in the header of impl (\w+)$")
 STEP = re.compile(r"\s+\d+ (.*?): (yes|maybe|refused)(.*)$")
 FUTURE = re.compile(r"(upstream|downstream) crates may add an impl")
+SIZED = "core::marker::Sized"
+FUNDAMENTAL = ("Box", "Pin")  # which cover no parameter
 AMBIGUOUS = "its goal is ambiguous"
 HOLDS = ("it holds by values of variables", "it may rest on an auto trait's impl for some types of a head")
 OF_ALIAS = ("it is of an associated type, and isn't asked", "an alias isn't known")
 
-ERROR, UNDECIDED, LINT, ORPHAN, STOP = "error", "undecided", "lint", "orphan", "stop"
+ERROR, UNDECIDED, LINT, LEAK, ORPHAN, STOP, ACCEPTED = "error", "undecided", "lint", "leak", "orphan", "stop", "accepted"
 
 
 @dataclass
 class Verdict:
-    """What is said of a finding: `error`, `undecided`, `lint`, `orphan` or `stop`.
+    """What is said of a finding: `error`, `undecided`, `lint`, `leak`, `orphan`, `stop` or `accepted`.
 
     `future` are the references for which another crate may add an impl, each with `upstream` or `downstream`; `doubts` say why it is undecided.
     """
@@ -83,8 +85,10 @@ class Decider:
 
     def _begin(self, finding: Finding) -> Verdict:
         """The verdict as far as it's known without a question."""
-        if finding.kind in ("orphan", "lint", "stop"):
-            verdict = Verdict({"orphan": ORPHAN, "lint": LINT, "stop": STOP}[finding.kind], finding)
+        if finding.kind in (ORPHAN, LINT, LEAK, STOP):
+            verdict = Verdict(finding.kind, finding)
+            if finding.kind == LINT and self._is_covered(finding):
+                verdict.word = ACCEPTED
             for reason in finding.first.widened if finding.kind == "orphan" else []:
                 verdict.doubt("a part of the header can't be said, and is read as any type: %s" % reason)
             return verdict
@@ -96,9 +100,22 @@ class Decider:
                 verdict.doubt(reason)
         if frozenset(self._names(finding)) in self.specialising:
             verdict.doubt("one specialises the other by what is read of their items, and the program doesn't confirm that its clauses hold")
-        if may_leak(finding.first.header, finding.second.header):
+        if finding.kind != "overlap" and may_leak(finding.first.header, finding.second.header):
             verdict.doubt("a region that a binder in the headers binds may keep them apart")
         return verdict
+
+    def _is_covered(self, finding: Finding) -> bool:
+        """Whether the associated type that a lint is about is a type that covers its parameters: rustc looks it up first."""
+        words = finding.answer.partition(" ")[2].partition(" local ")[0].replace("$", "!")
+        sized = next((name for name, known in self.speller.names.items() if known["path"] == SIZED), None)
+        given = ["env %s %s" % (sized, variable) for variable in sorted(set(re.findall(r"!\d+", words))) if sized]
+        text = self.text.replace("\nmode coherence\n", "\nmode analysis\n")  # in coherence nothing is known of a placeholder
+        word, _, found = ask(self.program, text, [*given, "normalize * " + words])[0].partition(" ")
+        if word != "type":
+            return False
+        term, _ = self.speller.type_at(found.split(), 0)
+        is_fundamental = term.head.split()[0] in ("&", "&mut") or self.speller.names.get(term.head, {}).get("spelled") in FUNDAMENTAL
+        return term.head[0] != "!" and not is_fundamental and not is_alias(term, self.speller.names)
 
     def _blocks(self, queries: List[str]) -> List[List[str]]:
         """For each question the lines of its answer."""

@@ -50,7 +50,7 @@ class Renderer:
 
     def render(self, diagnostic: Diagnostic) -> str:
         """The diagnostic with its lines, and an empty line behind it."""
-        code = "[%s]" % diagnostic.code if diagnostic.code and diagnostic.level == "error" else ""
+        code = "[%s]" % diagnostic.code if diagnostic.code and diagnostic.code.startswith("E") else ""
         head = self._coloured(COLOURS[diagnostic.level], diagnostic.level + code) + self._coloured("1", ": " + diagnostic.message)
         own = [span for span in with_expansions(diagnostic.spans) if span.file]
         beside = [span for note in diagnostic.notes for span in note.spans]

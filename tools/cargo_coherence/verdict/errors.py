@@ -2,16 +2,17 @@
 
 import re
 from dataclasses import dataclass
-from typing import Dict, List, Optional, Tuple
+from typing import Dict, Iterator, List, Optional, Tuple
 
 from cargo_coherence.ask.answers import Speller
 from cargo_coherence.ask.findings import LINT, Flood, Teller
 from cargo_coherence.ask.refusals import OVERLAP, Refusal
 from cargo_coherence.from_rustdoc.toolchain import STD
-from cargo_coherence.to_text.model import Impl
+from cargo_coherence.to_text.model import Impl, Term
 from cargo_coherence.to_text.names import PRIMITIVES
-from cargo_coherence.verdict.decide import ERROR, LINT as LINTED, ORPHAN, STOP, UNDECIDED, Verdict
+from cargo_coherence.verdict.decide import ERROR, LEAK as LEAKED, LINT as LINTED, ORPHAN, STOP, UNDECIDED, Verdict
 from cargo_coherence.verdict.diagnostics import Diagnostic, Note
+from cargo_coherence.verdict.leaking import LEAK
 from cargo_coherence.verdict.sources import Sources, Span, span_of
 
 # Modules of std below others that a path has; what lies in the rest is shown one module above.
@@ -28,6 +29,12 @@ BEFORE = (
     "in this case, 'before' refers to the following order: `impl<..> ForeignTrait<T1, ..., Tn> for T0`, "
     "where `T0` is the first and `Tn` is the last"
 )
+PHASED_OUT = "this was previously accepted by the compiler but is being phased out; it will become a hard error in a future release!"
+MAY_CHANGE = "the behavior may change in a future release"
+ISSUE = "for more information, see issue #%d <https://github.com/rust-lang/rust/issues/%d>"
+BUG_FIX = "this behavior recently changed as a result of a bug fix; see rust-lang/rust#56105 for details"
+ON = "`#[warn(%s)]` (part of `#[warn(future_incompatible)]`) on by default"
+COVERED_ISSUE, LEAK_ISSUE = (Note(ISSUE % (issue, issue)) for issue in (124559, 56105))
 ORPHAN_NOTES = (
     "impl doesn't have any local type before any uncovered type parameters",
     "for more information see https://doc.rust-lang.org/reference/items/implementations.html#orphan-rules",
@@ -88,7 +95,11 @@ class Errors:
         for verdict in verdicts:
             if verdict.word == UNDECIDED:
                 found.append(self._undecided(verdict))
-            elif verdict.word in (ORPHAN, LINTED):
+            elif verdict.word == LEAKED:
+                found.append(self._leak(verdict))
+            elif verdict.word == LINTED:
+                found += self._covered_in_projection(verdict)
+            elif verdict.word == ORPHAN:
                 found.append(self._orphan(verdict, floods))
             elif verdict.word == STOP:
                 found.append(self._stopped(verdict))
@@ -98,7 +109,12 @@ class Errors:
             if primary and primary.expansion and primary.expansion.macro.endswith("!"):
                 note = Note(ORIGIN % primary.expansion.macro[:-1])
                 diagnostic.notes += [note] if note not in diagnostic.notes else []
-        return sorted(found, key=_order)
+        found.sort(key=_order)
+        for name, issue in ((LINT, COVERED_ISSUE), (LEAK, LEAK_ISSUE)):
+            first = next((diagnostic for diagnostic in found if issue in diagnostic.notes), None)
+            if first:
+                first.notes.append(Note(ON % name))
+        return found
 
     # Overlaps
 
@@ -210,6 +226,19 @@ class Errors:
 
     # Others
 
+    def _leak(self, verdict: Verdict) -> Diagnostic:
+        """The warning of a pair that rustc takes for apart by what binders bind."""
+        finding = verdict.finding
+        later, first = self._ordered(finding.first, finding.second)
+        instance = first.header
+        if any("#" in argument.words() for argument in instance.arguments):
+            instance, _ = self.speller.clause_at(finding.answer.split(), 0)
+        own = self.speller.spell(instance.arguments[0])
+        message = "conflicting implementations of trait `%s` for type `%s`" % (self.speller.spell_trait(instance), own)
+        spans, notes = self._both(later, first, ["conflicting implementation for `%s`" % own, "first implementation here"], None)
+        notes += [Note(MAY_CHANGE, "warning"), LEAK_ISSUE, Note(BUG_FIX)]
+        return Diagnostic("warning", LEAK, message, spans, notes, self._key(LEAK, later, first))
+
     def _undecided(self, verdict: Verdict) -> Diagnostic:
         finding = verdict.finding
         if finding.second is None:
@@ -231,8 +260,6 @@ class Errors:
         word, _, rest = finding.answer.partition(" ")
         flood = next((flood for flood in floods if flood.first is finding.first), None)
         notes = [Note(flood.words())] if flood else []
-        if verdict.word == LINTED:
-            return self._of_one("warning", LINT, finding.first, self._covered(finding.first, rest), [Note(COVERED["local none" not in rest])])
         if word == "uncovered":
             more = [Note(COVERED["local none" not in rest]), Note(BEFORE if "local none" not in rest else ONLY % "a type parameter")]
             return self._of_one("error", "E0210", finding.first, self._covered(finding.first, rest), more + notes)
@@ -243,12 +270,30 @@ class Errors:
         first, *more = ORPHAN_NOTES
         return self._of_one("error", "E0117", finding.first, ONLY % kind, [Note(first), *map(Note, more), *notes])
 
+    def _covered_in_projection(self, verdict: Verdict) -> Iterator[Diagnostic]:
+        """The warnings of a header whose parameters stand in an associated type alone: one for each of these."""
+        written, (_, _, rest) = verdict.finding.first, verdict.finding.answer.partition(" ")
+        uncovered, _, local = rest.partition(" local ")
+        alias, _ = self.speller.type_at(uncovered.split(), 0)
+        for parameter in dict.fromkeys(re.findall(r"\$\d+", alias.words())):
+            name = self.teller.speller.spell(Term(parameter), written.parameter_names)
+            message = self._uncovered(name, local)
+            notes = [Note(COVERED[local != "none"]), Note(BEFORE if local != "none" else ONLY % "a type parameter"), Note(PHASED_OUT, "warning"), COVERED_ISSUE]
+            span = self.sources.parameter(written.named.place, name)
+            if span is None:
+                yield self._of_one("warning", "E0210", written, message, notes)
+            else:
+                span.label, span.is_primary = message, True
+                yield Diagnostic("warning", "E0210", message, [span], notes, "%s | %s" % (self._key(LINT, written, None), name))
+
     def _covered(self, written: Impl, rest: str) -> str:
         """rustc's words for a parameter that stands alone."""
         uncovered, _, local = rest.partition(" local ")
-        parameter = self.speller.spell(self.speller.type_at(uncovered.split(), 0)[0], None)
-        if uncovered.startswith("$"):
-            parameter = self.teller.speller.spell(self.speller.type_at(uncovered.split(), 0)[0], written.parameter_names)
+        names = written.parameter_names if uncovered.startswith("$") else None
+        speller = self.teller.speller if uncovered.startswith("$") else self.speller
+        return self._uncovered(speller.spell(self.speller.type_at(uncovered.split(), 0)[0], names), local)
+
+    def _uncovered(self, parameter: str, local: str) -> str:
         if local == "none":
             return "type parameter `%s` must be used as the type parameter for some local type (e.g., `MyStruct<%s>`)" % (parameter, parameter)
         own = self.speller.spell(self.speller.type_at(local.split(), 0)[0])

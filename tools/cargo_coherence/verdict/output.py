@@ -36,7 +36,7 @@ class Short(Output):
     def tell(self, result: Result, diagnostic: Diagnostic) -> None:
         span = diagnostic.primary()
         place = "%s:%d:%d: " % (span.file, span.line_start, span.column_start) if span else ""
-        code = "[%s]" % diagnostic.code if diagnostic.code and diagnostic.level == "error" else ""
+        code = "[%s]" % diagnostic.code if diagnostic.code and diagnostic.code.startswith("E") else ""
         print("%s%s%s: %s" % (place, diagnostic.level, code, diagnostic.message), flush=True)
 
 

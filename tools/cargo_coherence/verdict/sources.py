@@ -72,6 +72,23 @@ class Sources:
         column = end - text.rfind("\n", 0, end) if line > first_line else first + end
         return Span(whole.file, first_line, first, line, column)
 
+    def parameter(self, place: Place, name: str) -> Optional[Span]:
+        """Where an impl that stands in the source declares a type parameter; nothing where a macro makes the impl."""
+        if not self.is_written(place):
+            return None
+        text, inside, before = self._cut(place), 0, ""
+        for token in tokens_of(text):
+            inside += token.text in ("<", *OPENING)
+            if inside == 1 and token.text == name and before in ("<", ","):
+                line = place.span[0] + text.count("\n", 0, token.start)
+                column = token.start - text.rfind("\n", 0, token.start) + (place.span[1] - 1 if line == place.span[0] else 0)
+                return Span(place.file or "", line, column, line, column + len(name))
+            inside -= token.text in (">", *CLOSING)
+            if inside == 0 and token.text == ">":
+                return None
+            before = token.text
+        return None
+
     def _cut(self, place: Place) -> str:
         """The text of an impl."""
         first_line, first, last_line, last = place.span

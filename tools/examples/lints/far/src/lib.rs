@@ -1,0 +1,3 @@
+//! A trait of another crate.
+
+pub trait Far<T> {}
