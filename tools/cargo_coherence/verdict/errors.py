@@ -1,6 +1,7 @@
 """Diagnostics in rustc's words out of verdicts: one error for each impl that rustc refuses."""
 
 import re
+from collections import Counter
 from dataclasses import dataclass
 from typing import Dict, Iterator, List, Optional, Tuple
 
@@ -17,6 +18,7 @@ from cargo_coherence.verdict.sources import Sources, Span, span_of
 
 # Modules of std below others that a path has; what lies in the rest is shown one module above.
 PUBLIC = set("atomic mpsc unix linux fd windows raw process hash_map hash_set btree_map btree_set vec_deque binary_heap linked_list".split())
+UNNAMED = ("function pointer", "pattern", "associated type")  # kinds of names that aren't spelled by a path
 ORIGIN = "this error originates in the macro `%s` (in Nightly builds, run with -Z macro-backtrace for more info)"
 MOST_REASONS = 5  # that are told of what is undecided
 ONLY = "only traits defined in the current crate can be implemented for %s"
@@ -55,9 +57,15 @@ def with_paths(names: Dict[str, dict], local: str) -> Dict[str, dict]:
     return {name: dict(known, spelled=_path(known, local)) for name, known in names.items()}
 
 
+def with_paths_of_twins(names: Dict[str, dict], local: str) -> Dict[str, dict]:
+    """The names with whole paths where several things have one: rustc shortens a path to its last name where no other item has that."""
+    counts = Counter(known["spelled"] for known in names.values() if known["kind"] not in UNNAMED)
+    return {name: dict(known, spelled=_path(known, local)) if counts[known["spelled"]] > 1 else known for name, known in names.items()}
+
+
 def _path(known: dict, local: str) -> str:
     crate, _, rest = known["path"].partition("::")
-    if known["kind"] in ("function pointer", "pattern", "associated type") or not rest or rest.startswith("?"):
+    if known["kind"] in UNNAMED or not rest or rest.startswith("?"):
         return known["spelled"]
     if crate == local:
         return rest
@@ -82,7 +90,7 @@ class Errors:
 
     def __init__(self, sources: Sources, names: Dict[str, dict], local: str, refusals: List[Refusal]) -> None:
         self.sources = sources
-        self.speller = RustcSpeller(names)
+        self.speller = RustcSpeller(with_paths_of_twins(names, local))
         self.full = RustcSpeller(with_paths(names, local))
         self.teller = Teller(Speller(names))
         self.refusals = refusals

@@ -78,6 +78,22 @@ impl<T: Copy> Several for T {}
 impl Several for u16 {}
 impl Several for u8 {} impl Several for u8 {}
 
+// Two types of one name, and two traits.
+pub mod left {
+    pub struct Twin;
+    pub trait Turn {}
+}
+pub mod right {
+    pub struct Twin;
+    pub trait Turn {}
+}
+impl Several for left::Twin {}
+impl Several for left::Twin {}
+impl left::Turn for right::Twin {}
+impl left::Turn for right::Twin {}
+impl left::Turn for Vec<left::Twin> {}
+impl left::Turn for Vec<left::Twin> {}
+
 // In a body.
 pub fn body() {
     impl Several for Vec<String> {}
