@@ -16,9 +16,9 @@ where memory is refused, that ends the program, while the proved one answers a s
 import argparse
 import glob
 import hashlib
-import itertools
 import os
 import re
+import shutil
 import subprocess
 import sys
 import tempfile
@@ -31,6 +31,7 @@ KIT = os.path.join(ROOT, "bench", "plain", "kit.rs")
 SPELLING = "spelling"  # stands beside the program, for who calls the libraries
 FACADE = "candidate_ir"  # the paths of its inner crates, for who calls the libraries
 PROGRAM = "assembly"
+RUST = os.path.join(ROOT, "rust")
 FLAGS = ["--edition", "2021", "-O", "-C", "codegen-units=1", "-A", "warnings"]
 
 # Comments, texts and characters, in which no word is one of the language.
@@ -124,11 +125,6 @@ def plain_with_docs(text):
     return text
 
 
-def plain(text):
-    """The plain Rust in a source. A comment may be left over from a member that was taken away, so none documents."""
-    return PRELUDE + re.sub(r"(?m)^(\s*)//[/!]", r"\1//", plain_with_docs(text))
-
-
 def libraries():
     """The crates of the repository with those that each uses, as `crates.txt` names them."""
     uses = {}
@@ -150,16 +146,8 @@ def in_order(name, uses, before):
 
 
 def write(name, to, is_program):
-    """Leaves the plain sources of a crate in the folder, and answers which of them is its root."""
-    source = os.path.join(ROOT, "crates", name, "src")
-    for below, _, files in os.walk(source):
-        folder = os.path.join(to, os.path.relpath(below, source))
-        os.makedirs(folder, exist_ok=True)
-        for file in files:
-            with open(os.path.join(below, file)) as given:
-                text = plain(given.read())
-            with open(os.path.join(folder, os.path.splitext(file)[0] + ".rs"), "w") as taken:
-                taken.write(text)
+    """Leaves the plain sources of a crate in the folder, those that the Cargo workspace has, and answers which of them is its root."""
+    plain_cargo.write_sources(name, os.path.join(ROOT, "crates", name, "src"), to, plain_with_docs, PRELUDE)
     return os.path.join(to, "main.rs" if is_program else "lib.rs")
 
 
@@ -167,6 +155,7 @@ def compile_crate(name, root, below, folder, is_program):
     """Compiles a crate, which may name those below it, which lie in the folder."""
     command = ["rustc", *FLAGS, "--crate-name", name]
     command += ["--crate-type", "bin", "-C", "lto"] if is_program else ["--crate-type", "lib"]
+    command += ["--cfg", 'feature="growths"'] if name == "kit" else []
     for used in below:
         command += ["--extern", "%s=%s" % (used, os.path.join(folder, "lib%s.rlib" % used))]
     subprocess.run([*command, "-L", folder, "--out-dir", folder, root], check=True)
@@ -206,7 +195,8 @@ def build_all(folder, programs, is_kept=False, above=()):
     uses, order, below, told = libraries(), [], ["kit"], {"kit": told_of([KIT], [])}
     for name in [*programs, *above]:
         in_order(name, uses, order)
-    make("kit", KIT, [], folder, False, told["kit"], is_kept)
+    plain_cargo.write_kit(KIT, os.path.join(folder, "kit.rs"))
+    make("kit", os.path.join(folder, "kit.rs"), [], folder, False, told["kit"], is_kept)
     for name in order:
         source, is_program = os.path.join(folder, "src", name), name in programs
         root = write(name, source, is_program)
@@ -306,25 +296,84 @@ def check(program):
     return counts
 
 
-def write_cargo(folder):
-    """Leaves a Cargo workspace of the sources in the folder."""
+def write_cargo(folder, is_linked=False):
+    """Leaves a Cargo workspace of the sources in the folder; where it `is_linked` the folder is `rust`, or one beside it."""
     held_prelude()
     uses = libraries()
-    stored = itertools.chain([stored_run()], *texts.tested().values())
     crates = []
     for name in (PROGRAM, "texts", "examples", SPELLING, FACADE):
         in_order(name, uses, crates)
-    plain_cargo.write_workspace(folder, ROOT, crates, uses, plain_with_docs, PRELUDE, KIT, stored)
+    plain_cargo.write_workspace(folder, ROOT, crates, uses, plain_with_docs, PRELUDE, KIT, is_linked)
+
+
+def files_of(folder):
+    """What a folder holds, by path: a file's text or where a link leads; without what is by hand, and what cargo leaves there."""
+    found = {}
+    for below, folders, files in os.walk(folder):
+        if below == folder:
+            folders[:] = [name for name in folders if name not in (plain_cargo.OWN, "target")]
+        for name in [*files, *folders]:
+            path = os.path.join(below, name)
+            if os.path.islink(path):
+                found[os.path.relpath(path, folder)] = os.readlink(path)
+            elif name in files and name != "Cargo.lock":
+                with open(path, "rb") as file:
+                    found[os.path.relpath(path, folder)] = file.read()
+    return found
+
+
+def made_rust():
+    """What the folder `rust` is to hold. It is made beside that, so that its links lead to the same."""
+    folder = tempfile.mkdtemp(prefix=".rust-", dir=ROOT)
+    try:
+        write_cargo(folder, is_linked=True)
+        return files_of(folder)
+    finally:
+        shutil.rmtree(folder)
+
+
+def others_in_rust():
+    """The files of the folder `rust` that aren't what the sources make."""
+    made, there = made_rust(), files_of(RUST)
+    return sorted(path for path in made.keys() | there.keys() if made.get(path) != there.get(path))
+
+
+def write_rust():
+    """Writes the folder `rust` anew; answers how many files changed."""
+    made = made_rust()
+    others = others_in_rust()
+    for path in others:
+        to = os.path.join(RUST, path)
+        if os.path.lexists(to):
+            os.remove(to)
+        if path in made:
+            os.makedirs(os.path.dirname(to), exist_ok=True)
+            if isinstance(made[path], str):
+                os.symlink(made[path], to)
+            else:
+                with open(to, "wb") as file:
+                    file.write(made[path])
+    return len(others)
 
 
 def main():
     words = argparse.ArgumentParser(description=__doc__, formatter_class=argparse.RawDescriptionHelpFormatter)
-    words.add_argument("folder", help="where the sources in plain Rust and the program are left")
-    words.add_argument("--cargo", action="store_true", help="leaves a Cargo workspace with docs, an example and tests, and compiles nothing")
+    words.add_argument("folder", nargs="?", help="where the sources in plain Rust and the program are left")
+    words.add_argument("--cargo", action="store_true", help="leaves a Cargo workspace with docs, examples and tests, and compiles nothing")
+    words.add_argument("--rust", action="store_true", help="writes the repository's folder `rust`, which is such a workspace, anew")
+    words.add_argument("--check", action="store_true", help="with --rust: writes nothing, and ends with status 1 where a file would change")
     asked = words.parse_args()
+    if asked.rust and asked.check:
+        others = others_in_rust()
+        sys.exit("rust/%s isn't what the sources make: `python3 bench/plain.py --rust` makes it" % others[0] if others else None)
+    if asked.rust:
+        print("%d files of %s changed" % (write_rust(), RUST))
+        return
+    if not asked.folder:
+        words.error("a folder is wanted")
     if asked.cargo:
         write_cargo(asked.folder)
-        print("%s is a Cargo workspace: cargo doc, cargo test, cargo run --example overlap" % asked.folder)
+        print("%s is a Cargo workspace: cargo doc, cargo test, cargo run -p rilgomut --example overlap" % asked.folder)
         return
     program = build(asked.folder)
     counts = check(program)

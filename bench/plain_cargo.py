@@ -1,9 +1,11 @@
-"""The plain Rust of the sources as a Cargo workspace, for `plain.py FOLDER --cargo`.
+"""The plain Rust of the sources as a Cargo workspace, for `plain.py FOLDER --cargo`, and for the folder `rust` (`plain.py --rust`).
 
-The workspace has a package for each library of the repository that the program needs, one for the program, `texts` that runs the texts of
-`crates/texts/data`, `rows` of `tests/rows`, `kit` with what stands for the kit's std, and `examples/overlap.rs` in the package `overlaps`. Doc
+The workspace has a package for each library of the repository that the program needs, one for the program, `rilgomut` over all of them (by hand, in
+`rust/rilgomut`), `texts` that runs the texts of `crates/texts/data`, `rows` of `tests/rows`, and `kit` with what stands for the kit's std. Doc
 comments are kept, so that `cargo doc --no-deps --open` shows what each call takes and answers. Each public type has `Debug`; each error has
 `Display` and `Error`. A debug build checks numbers (`plain_checks.py`). `cargo test` runs the stored texts and the rows.
+
+In the folder `rust` links lead to the texts and rows; elsewhere these are copied.
 """
 
 import os
@@ -12,24 +14,106 @@ import shutil
 
 import plain_checks
 
-# The package of each crate says where its text comes from.
-MANIFEST = """[package]
-name = "%s"
-version = "0.166.0"
-edition = "2021"
-description = "%s"
-license = "Apache-2.0"
-publish = false
+VERSION = "0.1.0"
 
-[dependencies]
-%s
-[lints.rust]
-warnings = "allow"
+# What is published, each by a name that no other package has. All others are for tests.
+PUBLISHED = "rilgomut-%s"
+FOR_TESTS = ("texts", "rows", "examples")
+PROGRAM = "assembly"
+OWN = "rilgomut"
+
+# A feature of `kit`: growths are counted and, where a variable or a test says so, refused.
+GROWTHS = "\n[features]\ngrowths = []\n"
+
+# The tests of rows but that of growths, which names files of `texts` by a path that a link leads elsewhere.
+TESTS = """autotests = false
+
+[[test]]
+name = "answers"
+path = "tests/answers.rs"
+
+[[test]]
+name = "calls"
+path = "tests/calls/main.rs"
 """
 
-WORKSPACE = """[workspace]
+MADE = "# Made by `bench/plain.py` of the sources in `crates`: an edit of this file is lost.\n"
+MADE_OF = "// Made of `%s` by `bench/plain.py`: an edit of this file is lost.\n\n"
+
+# The package of each crate says where its text comes from.
+MANIFEST = MADE + """[package]
+name = "%(package)s"
+description = "%(told)s"
+version.workspace = true
+edition.workspace = true
+license.workspace = true
+rust-version.workspace = true
+keywords.workspace = true
+categories.workspace = true
+%(more)s
+[lints]
+workspace = true
+
+[dependencies]
+%(uses)s"""
+
+WORKSPACE = MADE + """[workspace]
 resolver = "2"
-members = [%s]
+members = [
+%(members)s]
+
+[workspace.package]
+version = "%(version)s"
+edition = "2021"
+license = "Apache-2.0"
+rust-version = "1.80"
+keywords = ["rustc", "trait", "coherence", "solver", "verified"]
+categories = ["development-tools", "compilers"]
+
+[workspace.dependencies]
+%(dependencies)s
+[workspace.lints.rust]
+unsafe_code = "forbid"
+unused_imports = "allow" # each file begins with what the kit has in its scope
+unused_variables = "allow" # some stand in contracts alone
+dead_code = "allow" # some stand in contracts alone
+
+[workspace.lints.clippy]
+# The proved sources index by numbers, of which their contracts speak.
+needless_range_loop = "allow"
+# The prover reads each borrow as it is written.
+borrow_deref_ref = "allow"
+needless_borrow = "allow"
+needless_lifetimes = "allow"
+explicit_auto_deref = "allow"
+# A contract names each argument, and the type of each result.
+too_many_arguments = "allow"
+type_complexity = "allow"
+result_large_err = "allow"
+wrong_self_convention = "allow"
+let_unit_value = "allow"
+large_enum_variant = "allow"
+result_unit_err = "allow"
+# What has a proof of its own stands in a function of its own, and isn't written by what has none.
+manual_find = "allow"
+single_match = "allow"
+manual_map = "allow"
+manual_hash_one = "allow"
+question_mark = "allow"
+match_like_matches_macro = "allow"
+redundant_pattern_matching = "allow"
+nonminimal_bool = "allow"
+misrefactored_assign_op = "allow"
+absurd_extreme_comparisons = "allow"
+# Each type has a size in the kit.
+needless_maybe_sized = "allow"
+# The rows of an evaluator have a module `evaluator` within theirs.
+module_inception = "allow"
+# `kit` has the names of the kit's std.
+new_without_default = "allow"
+new_ret_no_self = "allow"
+should_implement_trait = "allow"
+len_without_is_empty = "allow"
 
 [profile.dev]
 opt-level = 1
@@ -40,15 +124,23 @@ codegen-units = 1
 lto = true
 """
 
-# Of which types `Error` is, and of which of these there is no `Display` in the sources.
+# Of which types `Error` is, and what `Display` writes of one of which the sources have none.
+STOP_OR = 'match self {\n            Self::Stop(stop) => stop.fmt(f),\n            %s\n        }'
 ERRORS = {
-    "ir_trees": [("crate::ir::stop::Stop", False), ("crate::decl::fault::DeclFault", False)],
-    "ir_builder": [("crate::decl::fault_places::DeclError", False)],
-    "candidate_eval": [("crate::eval::refusal::NoSolutionOrStop", True)],
+    "kit": [("crate::alloc::AllocError", 'f.write_str("memory was refused")')],
+    "ir_trees": [("crate::ir::stop::Stop", None), ("crate::decl::fault::DeclFault", None)],
+    "ir_builder": [("crate::decl::fault_places::DeclError", None)],
+    "candidate_eval": [
+        ("crate::eval::refusal::NoSolutionOrStop", STOP_OR % 'Self::NoSolution => f.write_str("the goal is refused"),'),
+        ("crate::objects::object::AmbiguousOrStop", STOP_OR % 'Self::Ambiguous => f.write_str("too little is known"),'),
+        ("crate::coherence::OrphanStop<E>", None),
+        ("crate::coherence::NormalizeErr<E>", STOP_OR % "Self::Failed(error) => error.fmt(f),"),
+    ],
+    "assembly_notation": [("crate::faults::Fault<'_>", None)],
 }
 
 # What tests and examples of a package name beside what the package uses.
-TESTED_OVER = {"candidate_eval": ["candidate_ir"], "overlaps": ["candidate_ir"]}
+TESTED_OVER = {"candidate_eval": ["candidate_ir"]}
 
 DOC = re.compile(r"\s*//[/!]")
 ATTRIBUTE = re.compile(r"\s*#!?\[")
@@ -94,13 +186,14 @@ def with_prelude(text, prelude):
 def with_errors(name):
     """What makes errors of the crate's types."""
     made = []
-    for path, is_shown in ERRORS.get(name, []):
-        if is_shown:
+    for path, shown in ERRORS.get(name, []):
+        of = "<E: std::fmt::Display>" if path.endswith("<E>") else ""
+        if shown:
             made.append(
-                "impl std::fmt::Display for %s {\n    fn fmt(&self, f: &mut std::fmt::Formatter<'_>) -> std::fmt::Result {\n"
-                '        write!(f, "{self:?}")\n    }\n}\n' % path
+                "impl%s std::fmt::Display for %s {\n    fn fmt(&self, f: &mut std::fmt::Formatter<'_>) -> std::fmt::Result {\n"
+                "        %s\n    }\n}\n" % (of, path, shown)
             )
-        made.append("impl std::error::Error for %s {}\n" % path)
+        made.append("impl%s std::error::Error for %s {}\n" % (of.replace("std", "std::fmt::Debug + std"), path))
     return "\n" + "\n".join(made) if made else ""
 
 
@@ -110,13 +203,18 @@ def added(name):
 
 
 def described(text):
-    """The first line of a crate's root."""
-    found = re.search(r"//! ([^\n]*)", text)
-    return found[1].replace('"', "'") if found else ""
+    """The first paragraph of a crate's root."""
+    found = re.match(r"(?://! [^\n]*\n)+", text)
+    return found[0].replace("//! ", "").strip().replace("\n", " ").replace('"', "'").replace("`", "") if found else ""
+
+
+# The files that are written.
+WRITTEN = set()
 
 
 def put(path, text):
     """Writes the text into the file, which stays as it is where it has that text: what is compiled of it stays, too."""
+    WRITTEN.add(os.path.abspath(path))
     if os.path.exists(path):
         with open(path) as given:
             if given.read() == text:
@@ -140,56 +238,114 @@ def write_sources(crate, source, to, plain, prelude):
             path = os.path.relpath(os.path.join(below, os.path.splitext(file)[0]), source).split(os.sep)
             module = [crate, *([] if is_root else path)]
             text = plain_checks.with_checks(crate, module, text)
-            text = with_prelude(with_debug(without_lost_docs(plain(text))), prelude)
-            put(os.path.join(folder, os.path.splitext(file)[0] + ".rs"), text + (with_errors(crate) + added(crate) if is_root else ""))
+            text = with_prelude(with_debug(without_lost_docs(plain(text))), prelude) + (with_errors(crate) + added(crate) if is_root else "")
+            made_of = MADE_OF % "/".join(["crates", crate, "src", os.path.relpath(os.path.join(below, file), source).replace(os.sep, "/")])
+            put(os.path.join(folder, os.path.splitext(file)[0] + ".rs"), made_of + text)
     return told
+
+
+def write_kit(kit, to):
+    """Writes what stands for the kit's std."""
+    with open(kit) as given:
+        put(to, MADE_OF % "bench/plain/kit.rs" + with_debug(given.read()) + with_errors("kit"))
+
+
+def package_of(name):
+    """The name of a crate's package."""
+    return name if name in FOR_TESTS else PUBLISHED % name.replace("_", "-")
 
 
 def named(uses):
     """The lines of a manifest that name packages of the workspace."""
-    return "".join('%s = { path = "../%s" }\n' % (used, used) for used in uses)
+    return "".join("%s.workspace = true\n" % used for used in uses)
 
 
-def write_package(folder, name, told, uses):
+def write_package(folder, name, told, uses, more=""):
     depends = named(uses)
     if name in TESTED_OVER:
         depends += "\n[dev-dependencies]\n" + named(TESTED_OVER[name])
-    put(os.path.join(folder, name, "Cargo.toml"), MANIFEST % (name, told, depends))
+    if name in FOR_TESTS:
+        more += "publish = false\n"
+    else:
+        more = 'readme = "README.md"\n' + more
+        more += '\n[[bin]]\nname = "%s"\npath = "src/main.rs"\n' % name if name == PROGRAM else '\n[lib]\nname = "%s"\n' % name
+    words = {"package": package_of(name), "told": told, "more": more, "uses": depends}
+    put(os.path.join(folder, name, "Cargo.toml"), MANIFEST % words)
 
 
-def write_tests(folder, texts):
-    """The stored texts with their answers, and a test that runs the program on each."""
-    data = os.path.join(folder, "assembly", "tests", "data")
-    os.makedirs(data, exist_ok=True)
-    for number, (text, status, answers) in enumerate(texts):
-        for end, kept in (("txt", text), ("out", answers), ("status", b"%d" % status)):
-            with open(os.path.join(data, "%04d.%s" % (number, end)), "wb") as taken:
-                taken.write(kept)
+def link_or_copy(of, to, is_linked):
+    """What `of` names at another place: a link that leads to it, or a copy."""
+    if os.path.islink(to) or os.path.isfile(to):
+        os.remove(to)
+    if os.path.isfile(of) and not is_linked:
+        shutil.copy(of, to)
+        return
+    if is_linked:
+        shutil.rmtree(to, ignore_errors=True)
+        os.makedirs(os.path.dirname(to), exist_ok=True)
+        os.symlink(os.path.relpath(of, os.path.dirname(to)), to)
+    else:
+        shutil.copytree(of, to, dirs_exist_ok=True)
 
 
-def write_rows(folder, root, uses):
-    """The rows with what answers them, which is Rust as it stands."""
-    to = os.path.join(folder, "rows")
-    shutil.rmtree(to, ignore_errors=True)
-    shutil.copytree(os.path.join(root, "tests", "rows"), to)
-    shutil.copytree(os.path.join(root, "crates", "texts", "data"), os.path.join(folder, "texts", "data"), dirs_exist_ok=True)
+def write_rows(folder, root, uses, is_linked):
+    """The rows with what answers them, which is Rust as it stands, and the texts."""
+    for part in ("data", "src", "tests"):
+        if not is_linked:
+            shutil.rmtree(os.path.join(folder, "rows", part), ignore_errors=True)
+        link_or_copy(os.path.join(root, "tests", "rows", part), os.path.join(folder, "rows", part), is_linked)
+    for part in ("data", "args", "stdout"):
+        link_or_copy(os.path.join(root, "crates", "texts", part), os.path.join(folder, "texts", part), is_linked)
     write_package(folder, "rows", "Rows that make and call what the libraries offer.", uses)
+    manifest = os.path.join(folder, "rows", "Cargo.toml")
+    with open(manifest) as file:
+        text = file.read()
+    text = text.replace("kit.workspace = true", 'kit = { workspace = true, features = ["growths"] }')
+    put(manifest, text.replace("publish = false\n", "publish = false\n" + TESTS) if is_linked else text)
 
 
-def write_workspace(folder, root, crates, uses, plain, prelude, kit, texts):
+def write_page(folder, root, name, told):
+    """The page of a package, and the licence beside it."""
+    page = "# %s\n\n%s\n\nA part of [`rilgomut`](https://crates.io/crates/rilgomut), which has all that a user names.\n" % (package_of(name), told)
+    put(os.path.join(folder, name, "README.md"), page)
+    with open(os.path.join(root, "LICENSE")) as licence:
+        put(os.path.join(folder, name, "LICENSE"), licence.read())
+
+
+def workspace(crates, libraries):
+    """The manifest of the workspace."""
+    paths = ['%s = { path = "%s", version = "%s", package = "%s" }\n' % (name, name, VERSION, package_of(name)) for name in ["kit", *libraries]]
+    members = "".join('    "%s",\n' % name for name in ["kit", *crates, "rows", OWN])
+    return WORKSPACE % {"members": members, "version": VERSION, "dependencies": "".join(paths)}
+
+
+def remove_others(folder, crates):
+    """Removes what an earlier run left of these crates and this one doesn't write."""
+    for name in crates:
+        for below, _, files in os.walk(os.path.join(folder, name)):
+            for path in (os.path.abspath(os.path.join(below, file)) for file in files):
+                if path.endswith(".rs") and path not in WRITTEN:
+                    os.remove(path)
+
+
+def write_workspace(folder, root, crates, uses, plain, prelude, kit, is_linked=False):
     """Leaves the workspace in the folder."""
-    here = os.path.join(root, "bench", "plain", "cargo")
-    write_package(folder, "kit", "What the sources use of the kit's std, by Rust's own.", [])
-    with open(kit) as given:
-        put(os.path.join(folder, "kit", "src", "lib.rs"), with_debug(given.read()))
+    told = "What the sources use of the kit's std, by Rust's own."
+    write_package(folder, "kit", told, [], more=GROWTHS)
+    write_page(folder, root, "kit", told)
+    write_kit(kit, os.path.join(folder, "kit", "src", "lib.rs"))
+    libraries = [name for name in crates if os.path.exists(os.path.join(root, "crates", name, "src", "lib.rt"))]
     for name in crates:
         source = os.path.join(root, "crates", name, "src")
         told = write_sources(name, source, os.path.join(folder, name, "src"), plain, prelude)
         write_package(folder, name, told, ["kit", *(used for used in uses[name] if used in uses)])
-    shutil.copytree(os.path.join(here, "examples"), os.path.join(folder, "overlaps", "examples"), dirs_exist_ok=True)
-    write_tests(folder, texts)
-    for name, file in (("candidate_eval", "checks.rs"), ("assembly", "texts.rs")):
-        with open(os.path.join(here, file)) as given:
-            put(os.path.join(folder, name, "tests", file), given.read())
-    write_rows(folder, root, ["kit", *(name for name in crates if os.path.exists(os.path.join(root, "crates", name, "src", "lib.rt")))])
-    put(os.path.join(folder, "Cargo.toml"), WORKSPACE % ", ".join('"%s"' % name for name in ["kit", *crates, "rows"]))
+        if name not in FOR_TESTS:
+            write_page(folder, root, name, told)
+    for name, file in (("candidate_eval", "checks.rs"), ("texts", "texts.rs")):
+        with open(os.path.join(root, "bench", "plain", "cargo", file)) as given:
+            put(os.path.join(folder, name, "tests", file), MADE_OF % ("bench/plain/cargo/" + file) + given.read())
+    write_rows(folder, root, ["kit", *(name for name in libraries if name not in FOR_TESTS)], is_linked)
+    if not is_linked:
+        link_or_copy(os.path.join(root, "rust", OWN), os.path.join(folder, OWN), False)
+    put(os.path.join(folder, "Cargo.toml"), workspace(crates, libraries))
+    remove_others(folder, ["kit", *crates])

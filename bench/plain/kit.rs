@@ -104,52 +104,68 @@ pub mod prelude {
 }
 
 pub mod alloc {
-    use std::cell::Cell;
+    #[cfg(feature = "growths")]
+    pub use growths::{growths, refusing};
+    #[cfg(feature = "growths")]
+    pub(crate) use growths::grow;
 
-    /// How many growths there were on this thread, and which are refused.
-    #[derive(Clone, Copy)]
-    struct Growths {
-        count: u64,
-        first: u64,
-        last: u64,
-    }
+    /// Growths are counted and refused, so that tests see what a refused one does.
+    #[cfg(feature = "growths")]
+    mod growths {
+        use super::AllocError;
+        use std::cell::Cell;
 
-    thread_local! {
-        static GROWTHS: Cell<Growths> = Cell::new(from_variables());
-    }
+        /// How many growths there were on this thread, and which are refused.
+        #[derive(Clone, Copy)]
+        struct Growths {
+            count: u64,
+            first: u64,
+            last: u64,
+        }
 
-    fn from_variables() -> Growths {
-        match std::env::var("REFUSE").map(|number| number.parse()) {
-            Ok(Ok(first)) => with_refused(first, std::env::var_os("LATER").is_some()),
-            _ => with_refused(0, false),
+        thread_local! {
+            static GROWTHS: Cell<Growths> = Cell::new(from_variables());
+        }
+
+        fn from_variables() -> Growths {
+            match std::env::var("REFUSE").map(|number| number.parse()) {
+                Ok(Ok(first)) => with_refused(first, std::env::var_os("LATER").is_some()),
+                _ => with_refused(0, false),
+            }
+        }
+
+        fn with_refused(first: u64, is_later: bool) -> Growths {
+            let last = if is_later { u64::MAX } else { first };
+            Growths { count: 0, first, last }
+        }
+
+        /// Runs with the growth of that number refused, and all later ones, if it says so; none where it is 0. Answers how many there were, too.
+        pub fn refusing<T>(number: u64, is_later: bool, run: impl FnOnce() -> T) -> (T, u64) {
+            let before = GROWTHS.replace(with_refused(number, is_later));
+            let found = run();
+            (found, GROWTHS.replace(before).count)
+        }
+
+        /// How many growths there were on this thread.
+        pub fn growths() -> u64 {
+            GROWTHS.get().count
+        }
+
+        /// A growth, if it isn't refused.
+        pub(crate) fn grow() -> Result<(), AllocError> {
+            let mut growths = GROWTHS.get();
+            growths.count += 1;
+            GROWTHS.set(growths);
+            if growths.first > 0 && (growths.first..=growths.last).contains(&growths.count) {
+                return Err(AllocError);
+            }
+            Ok(())
         }
     }
 
-    fn with_refused(first: u64, is_later: bool) -> Growths {
-        let last = if is_later { u64::MAX } else { first };
-        Growths { count: 0, first, last }
-    }
-
-    /// Runs with the growth of that number refused, and all later ones, if it says so; none where it is 0. Answers how many there were, too.
-    pub fn refusing<T>(number: u64, is_later: bool, run: impl FnOnce() -> T) -> (T, u64) {
-        let before = GROWTHS.replace(with_refused(number, is_later));
-        let found = run();
-        (found, GROWTHS.replace(before).count)
-    }
-
-    /// How many growths there were on this thread.
-    pub fn growths() -> u64 {
-        GROWTHS.get().count
-    }
-
-    /// A growth, if it isn't refused.
+    /// A growth.
+    #[cfg(not(feature = "growths"))]
     pub(crate) fn grow() -> Result<(), AllocError> {
-        let mut growths = GROWTHS.get();
-        growths.count += 1;
-        GROWTHS.set(growths);
-        if growths.first > 0 && (growths.first..=growths.last).contains(&growths.count) {
-            return Err(AllocError);
-        }
         Ok(())
     }
 
@@ -547,6 +563,7 @@ pub mod runtime {
     pub struct HostRuntime;
 
     /// At its end the program says how many growths there were, where the variable `COUNT_GROWTHS` is set.
+    #[cfg(feature = "growths")]
     impl Drop for HostRuntime {
         fn drop(&mut self) {
             if std::env::var_os("COUNT_GROWTHS").is_some() {

@@ -1,0 +1,85 @@
+// Made of `crates/assembly/src/files.rt` by `bench/plain.py`: an edit of this file is lost.
+
+//! Files, one after the other, as one text.
+
+use kit::{eprintln, format, prelude::*, print, println, vec};
+use kit::alloc::Global;
+use kit::fs::{File, Files};
+use kit::io;
+use kit::io::Read;
+
+/// What is read of several files, one after the other. Where one ends, its last line does.
+#[derive(Debug)]
+pub struct FilesInOrder<F: Read + Drop> {
+    files: Vec<F>,
+    /// The one that is read.
+    place: usize,
+    /// Whether a line began that hasn't ended.
+    is_in_line: bool,
+}
+
+impl<F: Read + Drop> FilesInOrder<F> {
+    fn new(files: Vec<F>) -> Self {
+        FilesInOrder {
+            files,
+            place: 0,
+            is_in_line: false,
+        }
+    }
+
+    pub fn is_empty(&self) -> bool {
+        self.files.is_empty()
+    }
+}
+
+impl<F: Read + Drop> Read for FilesInOrder<F> {
+    fn read(&mut self, buf: &mut [u8]) -> io::Result<usize> {
+        for _ in self.place..self.files.len() {
+            let Some(file) = self.files.get_mut(self.place) else {
+                return Ok(0);
+            };
+            let count = file.read(buf)?;
+            if let Some(last) = buf[..count].last() {
+                self.is_in_line = *last != b'\n';
+                return Ok(count);
+            }
+            self.place = self.place.saturating_add(1);
+            if self.is_in_line {
+                self.is_in_line = false;
+                if let Some(first) = buf.first_mut() {
+                    *first = b'\n';
+                    return Ok(1);
+                }
+            }
+        }
+        Ok(0)
+    }
+}
+
+/// Opens the files of these names. The error names the first one that can't be opened, and says why.
+pub fn open_all<R: Files>(
+    alloc: Global,
+    system: &R,
+    names: &[String],
+) -> Result<FilesInOrder<R::File>, String> {
+    let mut files = Vec::new(alloc);
+    for name in names {
+        match File::open(system, name.as_str()) {
+            Ok(file) => {
+                if files.push(file).is_err() {
+                    return Err(String::new(alloc));
+                }
+            }
+            Err(error) => return Err(reason_of(alloc, name.as_str(), error)),
+        }
+    }
+    Ok(FilesInOrder::new(files))
+}
+
+/// Why the file of that name can't be opened; empty where memory is refused.
+fn reason_of(alloc: Global, name: &str, error: io::Error) -> String {
+    match format!(in alloc; "error: {name}: {error}") {
+        Ok(reason) => reason,
+        Err(_) => String::new(alloc),
+    }
+}

@@ -1,0 +1,164 @@
+// Made of `crates/assembly_text/src/considering.rt` by `bench/plain.py`: an edit of this file is lost.
+
+//! By which candidates a goal comes to what it does.
+
+
+use kit::{eprintln, format, prelude::*, print, println, vec};
+use crate::explaining::is_final;
+use crate::solving::{context_of, environment, evaluator, run, solve};
+use assembly_notation::given::Given;
+use candidate_eval::eval::certainty::Certainty;
+use candidate_eval::eval::response::Candidate;
+use candidate_eval::eval::source::CandidateSource;
+use candidate_rounds::rounds::Rounds;
+use candidate_rounds::rounds::goals::Verdict;
+use ir_context::decl::context::Cx;
+use ir_trees::ir::kinds::{Clause, ParamEnv, TraitPredicate};
+use ir_trees::ir::stop::Stop;
+use kit::alloc::Global;
+
+/// A candidate: by what a goal holds, if it does, and whether that is sure.
+#[derive(Clone, Copy, Debug)]
+pub struct Listed {
+    pub source: CandidateSource,
+    pub is_sure: bool,
+}
+
+/// What a goal comes to, and by which candidates.
+#[derive(Debug)]
+pub struct Considered {
+    pub verdict: Option<Verdict>,
+    pub candidates: Vec<Listed>,
+}
+
+/// What is shown of candidates.
+fn shown(alloc: Global, candidates: &[Candidate]) -> Result<Vec<Listed>, Stop> {
+    let mut list = Vec::new(alloc);
+    for i in 0..candidates.len() {
+        let is_sure = match candidates[i].result.certainty {
+            Certainty::Yes => true,
+            Certainty::Maybe(_) => false,
+        };
+        list.push(Listed {
+            source: candidates[i].source,
+            is_sure,
+        })?;
+    }
+    Ok(list)
+}
+
+/// The candidates for a goal by the table; none, where it may not be run, as no goal of a text is.
+fn list_here(
+    alloc: Global,
+    rounds: &mut Rounds,
+    env: ParamEnv,
+    predicate: TraitPredicate,
+) -> Result<Vec<Listed>, Stop>
+{
+    if !rounds.may_be_run(alloc, env, predicate)? {
+        return Ok(Vec::new(alloc));
+    }
+    let candidates = rounds.candidates(alloc, env, predicate)?;
+    shown(alloc, candidates.as_slice())
+}
+
+/// The candidates that the last of so many rounds lists for a goal which isn't final before it.
+fn listed_last(
+    alloc: Global,
+    rounds: &mut Rounds,
+    env: ParamEnv,
+    predicate: TraitPredicate,
+    count: u16,
+) -> Result<Vec<Listed>, Stop>
+{
+    if count == 1 {
+        return list_here(alloc, rounds, env, predicate);
+    }
+    run(alloc, rounds, env, predicate, count - 1)?;
+    list_here(alloc, rounds, env, predicate)
+}
+
+/// The candidates that the round lists in which the goal becomes final, one of so many.
+fn listed_finally(
+    alloc: Global,
+    rounds: &mut Rounds,
+    env: ParamEnv,
+    predicate: TraitPredicate,
+    count: u16,
+) -> Result<Vec<Listed>, Stop>
+{
+    for _before in 1..count {
+        let list = list_here(alloc, rounds, env, predicate)?;
+        let verdict = run(alloc, rounds, env, predicate, 1)?;
+        if is_final(verdict.as_ref()) {
+            return Ok(list);
+        }
+    }
+    list_here(alloc, rounds, env, predicate)
+}
+
+/// The candidates that the last round lists of a goal under these clauses, of so many at most.
+fn list_in(
+    alloc: Global,
+    rounds: &mut Rounds,
+    clauses: &[Clause],
+    predicate: TraitPredicate,
+    count: u16,
+    is_final: bool,
+) -> Result<Vec<Listed>, Stop>
+{
+    match environment(rounds, clauses, predicate)? {
+        Some(env) if is_final => listed_finally(alloc, rounds, env, predicate, count),
+        Some(env) => listed_last(alloc, rounds, env, predicate, count),
+        None => Ok(Vec::new(alloc)),
+    }
+}
+
+/// The candidates that the last round lists of a goal, asked of a new evaluator, which ends then.
+fn list(
+    alloc: Global,
+    cx: Cx,
+    given: &Given,
+    predicate: TraitPredicate,
+    count: u16,
+    is_final: bool,
+) -> (Cx, Result<Vec<Listed>, Stop>)
+{
+    match evaluator(alloc, cx, given) {
+        Ok(mut rounds) => {
+            let clauses = given.clauses.as_slice();
+            let list = list_in(alloc, &mut rounds, clauses, predicate, count, is_final);
+            (context_of(rounds), list)
+        }
+        Err((cx, stop)) => (cx, Err(stop)),
+    }
+}
+
+/// What a goal comes to in so many rounds at most, and by which candidates: those that the last round lists, found by the same rounds in a new
+/// evaluator. The context has the nodes that were made meanwhile. It stops as `Rounds::run` does.
+pub fn consider(
+    alloc: Global,
+    cx: Cx,
+    given: &Given,
+    predicate: TraitPredicate,
+    count: u16,
+) -> (Cx, Result<Considered, Stop>)
+{
+    let (cx, verdict) = solve(alloc, cx, given, predicate, count);
+    let verdict = match verdict {
+        Ok(verdict) => verdict,
+        Err(stop) => return (cx, Err(stop)),
+    };
+    let is_final = is_final(verdict.as_ref());
+    let (cx, list) = list(alloc, cx, given, predicate, count, is_final);
+    match list {
+        Ok(candidates) => (
+            cx,
+            Ok(Considered {
+                verdict,
+                candidates,
+            }),
+        ),
+        Err(stop) => (cx, Err(stop)),
+    }
+}

@@ -1,0 +1,15 @@
+// Made of `crates/assembly_text/src/options.rt` by `bench/plain.py`: an edit of this file is lost.
+
+//! How a run answers.
+
+use kit::{eprintln, format, prelude::*, print, println, vec};
+/// What is asked of a run besides what stands in its text. Where nothing is, it prints the answers alone.
+#[derive(Clone, Copy, Debug, Default, PartialEq, Eq)]
+pub struct Options {
+    /// Whether answers have their reasons behind them.
+    pub reasons: bool,
+    /// Whether each answer, and what is said of a bad line, is an object of JSON in a line.
+    pub json: bool,
+    /// Whether the status says that a check found something, and the standard error why a query stopped.
+    pub tells_more: bool,
+}

@@ -1,0 +1,112 @@
+// Made of `crates/assembly_text/src/together.rt` by `bench/plain.py`: an edit of this file is lost.
+
+//! What is said of two impls that may overlap: whether what their where clauses say keeps them apart, all together or one of them alone.
+
+
+use kit::{eprintln, format, prelude::*, print, println, vec};
+use crate::asking::Asking;
+use crate::solving::{apart_by_clauses, negated_clause};
+use ir_trees::decl::contents::ImplId;
+use ir_trees::ir::stop::Stop;
+use overlaps::instance::CommonInstance;
+use overlaps::overlap::{Overlap, WhereClause};
+
+/// The instance of both impls, where they may overlap.
+fn instance_of(overlap: Result<Overlap, Stop>) -> Option<CommonInstance>
+{
+    match overlap {
+        Ok(Overlap::May(instance)) => Some(instance),
+        Ok(Overlap::NoCommonTrait) => None,
+        Ok(Overlap::Allowed(_)) => None,
+        Ok(Overlap::DisjointHeaders) => None,
+        Ok(Overlap::DisjointClause(_)) => None,
+        Err(_) => None,
+    }
+}
+
+impl<'a> Asking<'a> {
+    /// Adds whether the two impls overlap, in so many rounds for each where clause.
+    pub(crate) fn answered_with_overlap(
+        self,
+        first: ImplId,
+        second: ImplId,
+        count: u16,
+    ) -> (Asking<'a>, Result<(), Stop>)
+    {
+        let (mut asking, overlap) = self.overlapped(first, second, count);
+        match instance_of(overlap) {
+            Some(instance) => asking.answered_unless_apart(first, second, instance, count),
+            None => {
+                let made = asking.print_overlap(first, overlap);
+                (asking, made)
+            }
+        }
+    }
+
+    /// Adds that the where clauses of the two can't hold together. Where that isn't known it adds which where clause can't hold where the
+    /// other one does, if that is asked for, or else that they may overlap there.
+    fn answered_unless_apart(
+        self,
+        first: ImplId,
+        second: ImplId,
+        instance: CommonInstance,
+        count: u16,
+    ) -> (Asking<'a>, Result<(), Stop>)
+    {
+        let (mut asking, apart) = self.kept_apart(first, second, count);
+        match apart {
+            Ok(true) => {
+                let made = asking.print_apart();
+                (asking, made)
+            }
+            Ok(false) => {
+                if asking.given.negative {
+                    return asking.answered_unless_negated(first, second, instance, count);
+                }
+                let made = asking.print_instance(instance);
+                (asking, made)
+            }
+            Err(stop) => (asking, Err(stop)),
+        }
+    }
+
+    /// Adds which where clause of the two can't hold where the other one does, or else that they may overlap there.
+    fn answered_unless_negated(
+        self,
+        first: ImplId,
+        second: ImplId,
+        instance: CommonInstance,
+        count: u16,
+    ) -> (Asking<'a>, Result<(), Stop>)
+    {
+        let (mut asking, clause) = self.negated(first, second, count);
+        let made = asking.print_unless_negated(first, instance, clause);
+        (asking, made)
+    }
+
+    /// Whether the where clauses of the two can't hold together, in so many rounds for each.
+    pub(crate) fn kept_apart(
+        self,
+        first: ImplId,
+        second: ImplId,
+        count: u16,
+    ) -> (Asking<'a>, Result<bool, Stop>)
+    {
+        let (maker, rest) = self.apart();
+        let (maker, apart) = apart_by_clauses(rest.alloc, maker, &rest.given, first, second, count);
+        (rest.with(maker), apart)
+    }
+
+    /// Which where clause of the two can't hold where the other one does, in so many rounds for each.
+    pub(crate) fn negated(
+        self,
+        first: ImplId,
+        second: ImplId,
+        count: u16,
+    ) -> (Asking<'a>, Result<Option<WhereClause>, Stop>)
+    {
+        let (maker, rest) = self.apart();
+        let (maker, clause) = negated_clause(rest.alloc, maker, &rest.given, first, second, count);
+        (rest.with(maker), clause)
+    }
+}

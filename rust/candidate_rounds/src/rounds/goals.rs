@@ -1,0 +1,203 @@
+// Made of `crates/candidate_rounds/src/rounds/goals.rt` by `bench/plain.py`: an edit of this file is lost.
+
+//! The goals of the table, with what each has come to, and the goals that were asked for meanwhile.
+
+
+use kit::{eprintln, format, prelude::*, print, println, vec};
+use crate::rounds::writing::{Written, are_there, put_all_in};
+use candidate_assembly::assembly::merging::TraitGoalProvenVia;
+use candidate_eval::eval::response::CanonicalResponse;
+use candidate_eval::eval::variable::CanonicalVar;
+use kit::indexmap::IndexMap;
+use ir_trees::ir::kinds::{Clause, Goal};
+use ir_trees::ir::stop::Stop;
+use kit::alloc::Global;
+use kit::hash::{Hash, Hasher};
+use kit::marker::Model;
+
+/// A goal of a trait by which the table knows all that are like it: values are put in, and variables numbered from 0 on in the order
+/// in which they first occur, the environment first.
+#[derive(Debug)]
+pub struct GoalKey {
+    pub goal: Goal<Clause>,
+    /// What each variable is.
+    pub variables: Vec<CanonicalVar>,
+}
+
+impl GoalKey {
+    /// The key again. The only stop is `Stop::Memory`.
+    pub(crate) fn copied(&self) -> Result<GoalKey, Stop>
+    {
+        Ok(GoalKey {
+            goal: self.goal,
+            variables: self.variables.clone()?,
+        })
+    }
+}
+
+/// Keys are equal where their numbers are: over one context, where their trees are.
+impl PartialEq for GoalKey {
+
+
+
+    fn eq(&self, other: &GoalKey) -> bool {
+        self.goal.predicate.0 == other.goal.predicate.0
+            && (self.goal.param_env.0 == other.goal.param_env.0
+                && self.variables.as_slice() == other.variables.as_slice())
+    }
+}
+
+impl Eq for GoalKey {
+
+}
+
+/// What its variables are is mostly settled by its trees, in which they are numbered.
+impl Hash for GoalKey {
+
+
+
+    fn hash<H: Hasher>(&self, state: &mut H) {
+        self.goal.predicate.0.hash(state);
+        self.goal.param_env.0.hash(state);
+    }
+}
+
+/// What a goal of a trait has come to. Of the first two it is told how the goal is proved, if there is one way.
+#[derive(Debug)]
+pub enum Verdict {
+    /// It holds, as the response says. This is final.
+    Yes(CanonicalResponse, Option<TraitGoalProvenVia>),
+    /// It may hold.
+    Maybe(CanonicalResponse, Option<TraitGoalProvenVia>),
+    /// It does not hold, as far as the rules go. This is final.
+    Refused,
+}
+
+/// What is known of a goal of the table.
+#[derive(Debug)]
+pub(crate) struct Slot {
+    /// What was last written for it, if anything was.
+    pub verdict: Option<Verdict>,
+    /// Whether goals that ask read the verdict. They do not read a Yes whose values aren't closed trees of the variables that it
+    /// leaves open.
+    pub is_readable: bool,
+}
+
+/// The table, and the goals that were asked for since the last round and aren't in it.
+#[derive(Debug)]
+pub(crate) struct Goals {
+    /// The goals of the table, and after them those that were asked for, of which nothing is known.
+    entries: IndexMap<GoalKey, Slot>,
+    /// How many of them are in the table.
+    count: usize,
+    /// Whether a round is being done: it asks for goals that the table doesn't have.
+    pub asks: bool,
+}
+
+impl Model for Goals {
+
+
+
+}
+
+/// As many goals as a table may have.
+pub(crate) const MAX_GOALS: usize = 65_536;
+
+/// Nothing is known.
+pub(crate) fn new_slot() -> Slot
+{
+    Slot {
+        verdict: None,
+        is_readable: true,
+    }
+}
+
+impl Goals {
+    /// No goal.
+    pub(crate) fn new(alloc: Global) -> Goals
+    {
+        Goals {
+            entries: IndexMap::new(alloc),
+            count: 0,
+            asks: false,
+        }
+    }
+
+    /// How many goals the table has.
+    pub(crate) fn len(&self) -> usize
+    {
+        self.count
+    }
+
+    /// The goal of that place, and what is known of it.
+    pub(crate) fn entry_at(&self, place: usize) -> (&GoalKey, &Slot)
+    {
+        match self.entries.get_index(place) {
+            Some(entry) => entry,
+            None => unreachable!(),
+        }
+    }
+
+    /// The place of the goal, if the table has it. It has no goal twice.
+    pub(crate) fn place_of(&self, key: &GoalKey) -> Option<usize>
+    {
+        match self.entries.get_index_of(key) {
+            Some(place) if place < self.count => Some(place),
+            _ => None,
+        }
+    }
+
+    /// Whether the table has the goal, or it was asked for.
+    pub(crate) fn is_noted(&self, key: &GoalKey) -> bool
+    {
+        self.entries.contains_key(key)
+    }
+
+    /// Enters a goal that the table doesn't have, with what is known of it, after all others. The only stop is `Stop::Memory`.
+    pub(crate) fn enter(&mut self, key: GoalKey, slot: Slot) -> Result<(), Stop>
+    {
+        self.entries.insert(key, slot)?;
+        self.count = self.entries.len();
+        Ok(())
+    }
+
+    /// A goal that the table doesn't have is asked for, if it isn't asked for yet. `Stop::EvaluatorLimit` comes where there are 65,536
+    /// goals, `Stop::Memory` where a growth was refused.
+    pub(crate) fn ask(&mut self, key: GoalKey) -> Result<(), Stop>
+    {
+        if self.entries.contains_key(&key) {
+            return Ok(());
+        }
+        if self.entries.len() >= MAX_GOALS {
+            return Err(Stop::EvaluatorLimit);
+        }
+        self.entries.insert(key, new_slot())?;
+        Ok(())
+    }
+
+    /// Goals are asked for from now on, or aren't. None has been asked for.
+    pub(crate) fn set_asking(&mut self, asks: bool)
+    {
+        self.entries.truncate(self.count);
+        self.asks = asks;
+    }
+
+    /// Whether all stays as it is, where a round has this for the table: all of it is there, and no goal was asked for.
+    pub(crate) fn is_still(&self, written: &[Option<Written>]) -> bool
+    {
+        self.entries.len() == self.count && are_there(&self.entries, written)
+    }
+
+    /// Writes what a round has for the table, and enters what was asked for.
+    pub(crate) fn write(&mut self, written: Vec<Option<Written>>)
+    {
+        put_all_in(&mut self.entries, written);
+        self.count = self.entries.len();
+    }
+
+    /// Enters what was asked for, of which nothing is known yet.
+    pub(crate) fn keep_asked(&mut self)
+    {
+        self.count = self.entries.len();
+    }
+}

@@ -1,0 +1,236 @@
+// Made of `crates/candidate_rounds/src/rounds/leaking.rt` by `bench/plain.py`: an edit of this file is lost.
+
+//! Regions that leak: the placeholder of a region that a binder binds is what can't name it, or has to outlive that.
+
+
+use kit::{eprintln, format, prelude::*, print, println, vec};
+use crate::rounds::Rounds;
+use crate::rounds::inference::{Entry, Inference};
+use crate::rounds::walking::has_marked;
+use ir_context::decl::context::Cx;
+use ir_trees::ir::heads::Marks;
+use ir_trees::ir::kinds::{Clause, ClauseKind, Placeholder, RegionKind};
+use ir_trees::ir::marks::Mark;
+use ir_trees::ir::node::Node;
+use ir_trees::ir::stop::Stop;
+use ir_trees::ir::trees::Trees;
+use ir_trees::ir::walked::Walked;
+use kit::alloc::Global;
+
+/// The mark of a region's placeholder of a universe above that one.
+#[derive(Debug)]
+struct RegionAbove(u32);
+
+impl Mark for RegionAbove {
+
+    fn is_on(&self, node: &Node) -> bool {
+        match node {
+            Node::Region(RegionKind::Placeholder(placeholder)) => placeholder.universe > self.0,
+            _ => false,
+        }
+    }
+
+}
+
+/// That one region outlives another.
+#[derive(Clone, Copy, Debug)]
+struct RegionOutlives {
+    longer: RegionKind,
+    shorter: RegionKind,
+}
+
+/// What the clause says of two regions.
+fn outlives_in(cx: &Cx, clause: Clause) -> Option<RegionOutlives>
+{
+    match cx.clause(clause).value {
+        ClauseKind::RegionOutlives(longer, shorter) => Some(RegionOutlives {
+            longer: cx.region_kind(longer),
+            shorter: cx.region_kind(shorter),
+        }),
+        _ => None,
+    }
+}
+
+/// Puts what is said, if anything is, at a list's end. The only stop is `Stop::Memory`, here and below.
+fn push_said(list: &mut Vec<RegionOutlives>, said: Option<RegionOutlives>) -> Result<(), Stop>
+{
+    if let Some(said) = said {
+        list.push(said)?;
+    }
+    Ok(())
+}
+
+/// What the clauses say of regions, in their order.
+fn all_outlives(alloc: Global, cx: &Cx, clauses: &[Clause]) -> Result<Vec<RegionOutlives>, Stop>
+{
+    let mut list = Vec::new(alloc);
+    for i in 0..clauses.len() {
+        push_said(&mut list, outlives_in(cx, clauses[i]))?;
+    }
+    Ok(list)
+}
+
+/// Whether the region is one of these.
+fn is_among(region: RegionKind, list: &[RegionKind]) -> bool
+{
+    for i in 0..list.len() {
+        if list[i] == region {
+            return true;
+        }
+    }
+    false
+}
+
+/// The first place that says of one of these regions what it outlives.
+fn first_said_of(list: &[RegionKind], said: &[RegionOutlives]) -> Option<usize>
+{
+    for place in 0..said.len() {
+        if is_among(said[place].longer, list) {
+            return Some(place);
+        }
+    }
+    None
+}
+
+/// All regions that the region has to outlive by what is said, itself among them.
+fn outlived(
+    alloc: Global,
+    region: RegionKind,
+    said: &[RegionOutlives],
+) -> Result<Vec<RegionKind>, Stop>
+{
+    let mut left = Vec::from_slice(alloc, said)?;
+    let mut list = Vec::new(alloc);
+    list.push(region)?;
+    while let Some(place) = first_said_of(list.as_slice(), left.as_slice()) {
+        let next = left.remove(place);
+        list.push(next.shorter)?;
+    }
+    Ok(list)
+}
+
+/// The universe of the variable of that number.
+fn universe_at(universes: &[u32], number: u32) -> Option<u32>
+{
+    universes.get(number as usize).copied()
+}
+
+/// Whether there is a universe, and it is older than that one.
+fn is_older(universe: Option<u32>, than: u32) -> bool
+{
+    match universe {
+        Some(universe) => universe < than,
+        None => false,
+    }
+}
+
+/// Whether the region can't name the placeholder, where variables are of these universes.
+fn cant_name(universes: &[u32], region: RegionKind, placeholder: Placeholder) -> bool
+{
+    match region {
+        RegionKind::Static => true,
+        RegionKind::Placeholder(other) => other != placeholder,
+        RegionKind::Var(number) => is_older(universe_at(universes, number), placeholder.universe),
+        RegionKind::Error | RegionKind::Bound(_) => false,
+    }
+}
+
+/// Whether the placeholder has to outlive a region that can't name it.
+fn outlives_too_much(
+    alloc: Global,
+    universes: &[u32],
+    placeholder: Placeholder,
+    said: &[RegionOutlives],
+) -> Result<bool, Stop>
+{
+    let list = outlived(alloc, RegionKind::Placeholder(placeholder), said)?;
+    for i in 0..list.len() {
+        if cant_name(universes, list[i], placeholder) {
+            return Ok(true);
+        }
+    }
+    Ok(false)
+}
+
+/// Whether a placeholder of a universe above that one has to outlive a region that can't name it, by what the clauses say.
+fn regions_leak(
+    alloc: Global,
+    cx: &Cx,
+    above: u32,
+    universes: &[u32],
+    clauses: &[Clause],
+) -> Result<bool, Stop>
+{
+    let said = all_outlives(alloc, cx, clauses)?;
+    for i in 0..said.len() {
+        if let RegionKind::Placeholder(placeholder) = said[i].longer {
+            if placeholder.universe > above
+                && outlives_too_much(alloc, universes, placeholder, said.as_slice())?
+            {
+                return Ok(true);
+            }
+        }
+    }
+    Ok(false)
+}
+
+/// Whether a placeholder of a universe above that one stands in the value of a variable that can't name it.
+fn entry_leaks(alloc: Global, cx: &Cx, above: u32, entry: &Entry) -> bool
+{
+    match entry.value {
+        Some(value) => {
+            let mut walked = Walked::new(alloc);
+            let highest = above.max(entry.universe);
+            has_marked(cx, &mut walked, value, &RegionAbove(highest))
+        }
+        None => false,
+    }
+}
+
+/// Whether that holds of one of the variables.
+fn values_leak(alloc: Global, cx: &Cx, above: u32, entries: &[Entry]) -> bool
+{
+    for i in 0..entries.len() {
+        if entry_leaks(alloc, cx, above, &entries[i]) {
+            return true;
+        }
+    }
+    false
+}
+
+/// The universes of the variables.
+fn universes_of(alloc: Global, entries: &[Entry]) -> Result<Vec<u32>, Stop>
+{
+    let mut list = Vec::new(alloc);
+    for i in 0..entries.len() {
+        list.push(entries[i].universe)?;
+    }
+    Ok(list)
+}
+
+/// Whether a placeholder of a universe above that one leaks, by what is known.
+fn leaks_in(alloc: Global, cx: &Cx, inference: &Inference, above: u32) -> Result<bool, Stop>
+{
+    if values_leak(alloc, cx, above, inference.variables()) {
+        return Ok(true);
+    }
+    let universes = universes_of(alloc, inference.variables())?;
+    regions_leak(alloc, cx, above, universes.as_slice(), inference.regions())
+}
+
+impl Rounds {
+    /// The newest universe of what is known.
+    pub fn newest_universe(&self) -> u32
+    {
+        self.inference.newest_universe()
+    }
+
+    /// Whether a region's placeholder of a universe above that one leaks, by what is known: it stands in the value of a variable that can't
+    /// name it, or has to outlive a region that can't, by what is recorded: `'static`, another placeholder, or a variable of an older
+    /// universe. The only stop is `Stop::Memory`.
+    pub fn leaks_above(&self, alloc: Global, above: u32) -> Result<bool, Stop>
+    {
+        self.recall_well_kept();
+        leaks_in(alloc, &self.cx, &self.inference, above)
+    }
+}

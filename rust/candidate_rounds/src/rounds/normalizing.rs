@@ -1,0 +1,257 @@
+// Made of `crates/candidate_rounds/src/rounds/normalizing.rt` by `bench/plain.py`: an edit of this file is lost.
+
+//! What a projection comes to: rounds for the goal of its trait, and then the goal that the projection is a new variable.
+
+
+use kit::{eprintln, format, prelude::*, print, println, vec};
+use crate::rounds::Rounds;
+use crate::rounds::goals::{GoalKey, Verdict};
+use crate::rounds::inference::Inference;
+use crate::rounds::keys::newest_of;
+use crate::rounds::responding::{numbered_args, numbers_of};
+use crate::rounds::running::predicate_of;
+use candidate_assembly::assembly::merging::TraitGoalProvenVia;
+use candidate_eval::eval::refusal::NoSolutionOrStop;
+use candidate_eval::eval::response::CanonicalResponse;
+use candidate_eval::eval::variable::{CanonicalVar, VariableKind};
+use ir_context::decl::context::Cx;
+use ir_context::decl::make::Build;
+use ir_trees::ir::heads::VariableSort;
+use ir_trees::ir::kinds::{
+    AliasTy, Args, AssocId, InferTy, ParamEnv, PredicatePolarity, TraitPredicate, TraitRef, Ty,
+    TyKind,
+};
+use ir_trees::ir::stop::Stop;
+use projection_goals::kind::{NormalizesTo, trait_of};
+use projection_goals::proving::compute_normalizes_to;
+use kit::alloc::Global;
+
+/// Where a goal that a projection is a new variable is computed, and the goal.
+#[derive(Debug)]
+struct TermStart {
+    inference: Inference,
+    param_env: ParamEnv,
+    goal: NormalizesTo,
+}
+
+/// The kind of the variable that stands for the term.
+pub(crate) const TERM: VariableKind = VariableKind::Term(VariableSort::General);
+
+/// That the trait of a projection holds of the projection's arguments.
+pub fn trait_predicate(cx: &Cx, alias: AliasTy) -> TraitPredicate
+{
+    let trait_ref = TraitRef {
+        def_id: trait_of(cx, AssocId(alias.id.0)),
+        args: alias.args,
+    };
+    TraitPredicate {
+        trait_ref,
+        polarity: PredicatePolarity::Positive,
+    }
+}
+
+/// The list with its variables numbered from 0 on, in the order in which they first occur. Nodes are made, and nothing else is changed.
+/// `Stop::Memory` comes where a growth was refused, `Stop::NodesFull` where no number is left, a tree would be higher than 1,024, or a node
+/// has more children than can be counted.
+pub fn canonical_args(alloc: Global, cx: &mut Cx, args: Args) -> Result<Args, Stop>
+{
+    debug_assert!(ir_trees::checks::is_sorted(&*cx, args), "candidate_rounds::rounds::normalizing::canonical_args: `args` is no number of its sort in this context");
+    let numbers = numbers_of(alloc, cx, args, &[])?;
+    numbered_args(alloc, cx, numbers.as_slice(), args)
+}
+
+/// How the goal of a verdict is proved, if it may hold: the way that the verdict names, also where it is a Maybe.
+fn proved_via(verdict: &Verdict) -> Option<Option<TraitGoalProvenVia>>
+{
+    match verdict {
+        Verdict::Yes(_, way) | Verdict::Maybe(_, way) => Some(*way),
+        Verdict::Refused => None,
+    }
+}
+
+/// A refusal is an answer, too.
+fn as_answer(
+    answer: Result<CanonicalResponse, NoSolutionOrStop>,
+) -> Result<Option<CanonicalResponse>, Stop>
+{
+    match answer {
+        Ok(response) => Ok(Some(response)),
+        Err(NoSolutionOrStop::NoSolution) => Ok(None),
+        Err(NoSolutionOrStop::Stop(stop)) => Err(stop),
+    }
+}
+
+/// One more variable for the key, the last: it stands for a projection's term. Its number is answered. `Stop::Memory` comes where a growth was
+/// refused, `Stop::NodesFull` where no number is left.
+pub(crate) fn add_term(key: &mut GoalKey, newest: u32) -> Result<u32, Stop>
+{
+    let number = key.variables.len();
+    if number >= u32::MAX as usize {
+        return Err(Stop::NodesFull);
+    }
+    key.variables.push(CanonicalVar {
+        kind: TERM,
+        universe: newest,
+    })?;
+    Ok(number as u32)
+}
+
+/// The general variable of that number. `Stop::Memory` comes where a growth was refused, `Stop::NodesFull` where no node is left.
+pub(crate) fn term(cx: &mut Cx, number: u32) -> Result<Ty, Stop>
+{
+    cx.mk_ty(TyKind::Infer(InferTy::TyVar(number)))
+}
+
+/// Where the projection's goal is computed, of the arguments of the key, which is that of its trait's goal: the key's variables are there and
+/// one more, of the newest universe, and nothing else is known; and the goal that the projection is that variable.
+///
+/// `Stop::Memory` comes where a growth was refused, `Stop::NodesFull` where no number is left or a node has more children than can be counted.
+fn start_with_term(
+    alloc: Global,
+    cx: &mut Cx,
+    mut key: GoalKey,
+    alias: AliasTy,
+) -> Result<TermStart, Stop>
+{
+    let newest = newest_of(alloc, cx, &key)?;
+    let number = add_term(&mut key, newest)?;
+    let inference = Inference::at(alloc, newest, key.variables.as_slice())?;
+    let term = term(cx, number)?;
+    let predicate = predicate_of(cx, &key);
+    let alias = AliasTy {
+        kind: alias.kind,
+        id: alias.id,
+        args: predicate.trait_ref.args,
+    };
+    Ok(TermStart {
+        inference,
+        param_env: key.goal.param_env,
+        goal: NormalizesTo { alias, term },
+    })
+}
+
+impl Rounds {
+    /// The start with a term over the evaluator's context: nodes are made, and nothing else changes.
+    fn start_with_term(
+        &mut self,
+        alloc: Global,
+        key: GoalKey,
+        alias: AliasTy,
+    ) -> Result<TermStart, Stop>
+    {
+        start_with_term(alloc, &mut self.cx, key, alias)
+    }
+
+    /// `canonical_args` over the evaluator's context: nodes are made, and nothing else.
+    fn number_args(&mut self, alloc: Global, args: Args) -> Result<Args, Stop>
+    {
+        canonical_args(alloc, &mut self.cx, args)
+    }
+
+    /// A list of the evaluator's context with its variables numbered from 0 on, in the order in which they first occur. Nodes are made, and
+    /// nothing else is changed: the new numbers are those of no variable that is known of. It stops as the function `canonical_args` does.
+    pub fn canonical_args(&mut self, alloc: Global, args: Args) -> Result<Args, Stop>
+    {
+        debug_assert!(ir_trees::checks::is_sorted(ir_context::decl::make::Make::cx(&*self), args), "candidate_rounds::rounds::normalizing::Rounds::canonical_args: `args` is no number of its sort in this context");
+        self.recall_well_kept();
+        self.number_args(alloc, args)
+    }
+
+    /// What the projection of a key's arguments comes to, where its trait's goal has the key and was proved in that way. What is known stays.
+    fn normalized(
+        &mut self,
+        alloc: Global,
+        key: GoalKey,
+        alias: AliasTy,
+        way: Option<TraitGoalProvenVia>,
+    ) -> Result<Option<CanonicalResponse>, Stop>
+    {
+        self.recall_well_kept();
+        let start = self.start_with_term(alloc, key, alias)?;
+        self.recall_well_kept();
+        self.recall_trees_fit();
+        self.cx.recall_well_formed_table();
+        let aside = self.suspend_state(alloc, start.inference);
+        let answer = self.normalize_here(alloc, way, start.param_env, start.goal);
+        self.recall_well_kept();
+        self.restore_state(aside);
+        as_answer(answer)
+    }
+
+    /// What a goal that a projection is a term comes to at what is known, by `compute_normalizes_to`.
+    fn normalize_here(
+        &mut self,
+        alloc: Global,
+        way: Option<TraitGoalProvenVia>,
+        param_env: ParamEnv,
+        goal: NormalizesTo,
+    ) -> Result<CanonicalResponse, NoSolutionOrStop>
+    {
+        compute_normalizes_to(alloc, self, way, param_env, goal)
+    }
+
+    /// What was asked for meanwhile is entered in the table, after all others.
+    fn keep_asked(&mut self)
+    {
+        self.goals.keep_asked();
+    }
+
+    /// What the goal comes to as `normalize_here` has it, where goals are asked for meanwhile, which are entered then. Where it stops
+    /// none is.
+    fn normalized_once(
+        &mut self,
+        alloc: Global,
+        key: GoalKey,
+        alias: AliasTy,
+        way: Option<TraitGoalProvenVia>,
+    ) -> Result<Option<CanonicalResponse>, Stop>
+    {
+        self.set_asking(true);
+        match self.normalized(alloc, key, alias, way) {
+            Ok(answer) => {
+                self.recall_well_kept();
+                self.keep_asked();
+                self.set_asking(false);
+                Ok(answer)
+            }
+            Err(stop) => {
+                self.set_asking(false);
+                Err(stop)
+            }
+        }
+    }
+
+    /// What type a projection is, in that many rounds at most: the goal of its trait is run, and where that isn't refused, the goal that the
+    /// projection is a new variable is computed under the table then left, in the way that the trait's verdict names. `None` says that there
+    /// is no type, as far as the rules go.
+    ///
+    /// The trait's goal may be a Maybe. More rounds may then refuse it, or find another way, and so take a sure answer back. Who needs an
+    /// answer that stays runs the trait's goal first and asks where that is a Yes.
+    ///
+    /// The response is of the key of the trait's goal: it speaks of the variables of the environment and of the projection, in the order in
+    /// which they first occur, the environment first, and last of the new one, whose value is the type that the projection is. The new one is
+    /// of the newest universe of the key. In a rigid answer the value is the projection itself, or its listed type.
+    ///
+    /// What is known, what is pending and the open probes stay in each case. The goals that the projection's first asks for are entered, so
+    /// that the rounds of a later call take them up. It stops as `run` does, and as `compute_normalizes_to` does; the table is then the one
+    /// that the run left.
+    pub fn normalize(
+        &mut self,
+        alloc: Global,
+        param_env: ParamEnv,
+        alias: AliasTy,
+        rounds: u16,
+    ) -> Result<Option<CanonicalResponse>, Stop>
+    {
+        let predicate = trait_predicate(&self.cx, alias);
+        let verdict = self.run(alloc, param_env, predicate, rounds)?;
+        let Some(way) = proved_via(&verdict) else {
+            return Ok(None);
+        };
+        self.recall_well_kept();
+        let key = self.key_for(alloc, param_env, predicate)?;
+        let answer = self.normalized_once(alloc, key, alias, way);
+        self.recall_well_kept();
+        answer
+    }
+}

@@ -1,0 +1,367 @@
+// Made of `crates/candidate_rounds/src/rounds/responding.rt` by `bench/plain.py`: an edit of this file is lost.
+
+//! Responses: what is known of the root variables, with the variables that it leaves open numbered anew.
+
+
+use kit::{eprintln, format, prelude::*, print, println, vec};
+use crate::rounds::Rounds;
+use crate::rounds::fresh::variable;
+use crate::rounds::inference::Inference;
+use crate::rounds::resolving::{Lone, resolved};
+use candidate_eval::eval::certainty::Certainty;
+use candidate_eval::eval::response::CanonicalResponse;
+use candidate_eval::eval::variable::{CanonicalVar, VariableKind};
+use ir_context::decl::context::Cx;
+use ir_folds::decl::answering::{PureFolder, fold_answers};
+use ir_trees::ir::heads::{Marks, VariableSort};
+use ir_trees::ir::kinds::{Args, Clause, ConstKind, GenericArg, RegionKind, TyKind};
+use ir_trees::ir::marks::Unsolved;
+use ir_trees::ir::numbered::Numbered;
+use ir_trees::ir::stop::Stop;
+use ir_trees::ir::trees::Trees;
+use ir_trees::ir::walked::Walked;
+use kit::alloc::Global;
+
+/// The place of a number among these; where it isn't there, how many they are.
+fn place_of(numbers: &[u32], number: u32) -> usize
+{
+    for i in 0..numbers.len() {
+        if numbers[i] == number {
+            return i;
+        }
+    }
+    numbers.len()
+}
+
+/// Whether the number is among these.
+fn is_seen(numbers: &[u32], number: u32) -> bool
+{
+    place_of(numbers, number) < numbers.len()
+}
+
+/// Notes a variable's number, unless it is among those seen. The only stop is `Stop::Memory`.
+pub(crate) fn note_number(numbers: &mut Vec<u32>, number: Option<u32>) -> Result<(), Stop>
+{
+    match number {
+        Some(number) if !is_seen(numbers.as_slice(), number) => Ok(numbers.push(number)?),
+        _ => Ok(()),
+    }
+}
+
+/// Nothing stands below a variable of types or constants.
+fn stands_bare(cx: &Cx, number: u32)
+{
+    let _ = cx.node(number);
+}
+
+/// Notes the numbers of the variables below a number of the context, where those below the walked numbers are noted. It stops by
+/// `Stop::Memory`, or by `Stop::NodesFull` where there are more children than can be counted.
+pub(crate) fn note_below(
+    cx: &Cx,
+    walked: &mut Walked<u32>,
+    numbers: &mut Vec<u32>,
+    number: u32,
+) -> Result<(), Stop>
+{
+    if !cx.marks(number).has_infer() {
+        return Ok(());
+    }
+    if walked.has(number) {
+        return Ok(());
+    }
+    for place in 0..usize::MAX {
+        let Some(child) = cx.child(number, place) else {
+            walked.note(number, place);
+            return Ok(());
+        };
+        stands_bare(cx, child);
+        note_number(numbers, cx.head(child).variable_number())?;
+        note_below(cx, walked, numbers, child)?;
+    }
+    Err(Stop::NodesFull)
+}
+
+/// Notes the numbers of the variables of an argument; it stops as `note_below` does.
+fn note_arg(
+    cx: &Cx,
+    walked: &mut Walked<u32>,
+    numbers: &mut Vec<u32>,
+    arg: GenericArg,
+) -> Result<(), Stop>
+{
+    if let Some(lone) = Lone::of(cx, arg) {
+        return note_number(numbers, lone.number());
+    }
+    note_number(numbers, cx.variable_number(arg))?;
+    note_below(cx, walked, numbers, arg.number())
+}
+
+/// Notes the numbers of the variables of a list; it stops as `note_below` does.
+fn note_args(
+    cx: &Cx,
+    walked: &mut Walked<u32>,
+    numbers: &mut Vec<u32>,
+    args: Args,
+) -> Result<(), Stop>
+{
+    let list = cx.args(args);
+    for i in 0..list.len() {
+        note_arg(cx, walked, numbers, list[i])?;
+    }
+    Ok(())
+}
+
+/// Notes the numbers of the variables of a clause; it stops as `note_below` does.
+pub(crate) fn note_clause(
+    cx: &Cx,
+    walked: &mut Walked<u32>,
+    numbers: &mut Vec<u32>,
+    clause: Clause,
+) -> Result<(), Stop>
+{
+    note_number(numbers, cx.head(clause.0).variable_number())?;
+    note_below(cx, walked, numbers, clause.0)
+}
+
+/// The numbers of the variables of a list and of clauses, each once, in the order in which they first occur; it stops as
+/// `note_below` does.
+pub(crate) fn numbers_of(
+    alloc: Global,
+    cx: &Cx,
+    args: Args,
+    clauses: &[Clause],
+) -> Result<Vec<u32>, Stop>
+{
+    let mut walked = Walked::new(alloc);
+    let mut numbers = Vec::new(alloc);
+    note_args(cx, &mut walked, &mut numbers, args)?;
+    for i in 0..clauses.len() {
+        note_clause(cx, &mut walked, &mut numbers, clauses[i])?;
+    }
+    Ok(numbers)
+}
+
+/// What stands for the variable of that number, if it is a root: its value, or itself, where it has none. `Stop::Memory` comes where a
+/// growth was refused, `Stop::NodesFull` where no number is left.
+fn root_value(cx: &mut Cx, inference: &Inference, number: u32) -> Result<Option<GenericArg>, Stop>
+{
+    let Some(entry) = inference.entry(number) else {
+        return Ok(None);
+    };
+    if !entry.is_root {
+        return Ok(None);
+    }
+    if entry.value.is_some() {
+        return Ok(entry.value);
+    }
+    Ok(Some(variable(cx, entry.kind, number)?))
+}
+
+/// Puts an argument, if there is one, at a list's end. The only stop is `Stop::Memory`.
+fn push_some(list: &mut Vec<GenericArg>, arg: Option<GenericArg>) -> Result<(), Stop>
+{
+    if let Some(arg) = arg {
+        list.push(arg)?;
+    }
+    Ok(())
+}
+
+/// The values of the root variables, in their order, with the variables themselves where they have none; it stops as `root_value`
+/// does.
+fn root_values(alloc: Global, cx: &mut Cx, inference: &Inference) -> Result<Args, Stop>
+{
+    let count = inference.next_variable()?;
+    let mut list = Vec::new(alloc);
+    for number in 0..count {
+        let root = root_value(cx, inference, number)?;
+        push_some(&mut list, root)?;
+    }
+    cx.mk_arg_list(list)
+}
+
+/// The region constraints, with all values put in; what is said of `Rounds::resolve_ty_if_possible` holds here, too.
+fn constraints(alloc: Global, cx: &mut Cx, inference: &Inference) -> Result<Vec<Clause>, Stop>
+{
+    let regions = inference.regions();
+    let mut list = Vec::new(alloc);
+    for i in 0..regions.len() {
+        list.push(resolved(alloc, cx, inference, regions[i])?)?;
+    }
+    Ok(list)
+}
+
+/// The variable that an argument is, if it is one: its kind and its number.
+pub(crate) fn variable_in(cx: &Cx, arg: GenericArg) -> Option<(VariableKind, u32)>
+{
+    match arg {
+        GenericArg::Ty(ty) => match cx.kind(ty) {
+            TyKind::Infer(var) => {
+                let variable = var.variable();
+                Some((VariableKind::Term(variable.sort), variable.number))
+            }
+            _ => None,
+        },
+        GenericArg::Const(constant) => match cx.const_kind(constant) {
+            ConstKind::Infer(number) => {
+                Some((VariableKind::Term(VariableSort::Constant), number))
+            }
+            _ => None,
+        },
+        GenericArg::Region(region) => match cx.region_kind(region) {
+            RegionKind::Var(number) => Some((VariableKind::Region, number)),
+            _ => None,
+        },
+    }
+}
+
+/// What stands for a variable, whose new number is the place of its old one. `Stop::Memory` comes where a growth was refused,
+/// `Stop::NodesFull` where no number is left, or the place is too large to be one.
+fn renumbered_at(cx: &mut Cx, numbers: &[u32], arg: GenericArg) -> Result<Option<GenericArg>, Stop>
+{
+    let Some((kind, number)) = variable_in(cx, arg) else {
+        return Ok(None);
+    };
+    let place = place_of(numbers, number);
+    if place > u32::MAX as usize {
+        return Err(Stop::NodesFull);
+    }
+    Ok(Some(variable(cx, kind, place as u32)?))
+}
+
+/// What `renumbered_at` answers.
+#[derive(Debug)]
+struct Renumbering<'a> {
+    numbers: &'a [u32],
+}
+
+impl PureFolder<Cx> for Renumbering<'_> {
+
+
+
+    fn may_answer(&self, marks: Marks) -> bool {
+        marks.has_infer()
+    }
+
+    fn answer(
+        &self,
+        alloc: Global,
+        make: &mut Cx,
+        arg: GenericArg,
+        binders: u32,
+    ) -> Result<Option<GenericArg>, Stop> {
+        let _ = alloc;
+        let _ = binders;
+        renumbered_at(make, self.numbers, arg)
+    }
+
+    fn recall_laws(&self) {}
+}
+
+/// The list, clause or whatever else it is, whose variables all have these numbers, with its variables numbered anew. What is said
+/// of `Rounds::resolve_ty_if_possible` holds here, too, and of `renumbered_at`.
+pub(crate) fn renumbered<N: Numbered>(
+    alloc: Global,
+    cx: &mut Cx,
+    numbers: &[u32],
+    value: N,
+) -> Result<N, Stop>
+{
+    if !cx.has_marked(value, &Unsolved) {
+        return Ok(value);
+    }
+    fold_answers(alloc, cx, value, &Renumbering { numbers })
+}
+
+/// The list, numbered anew so; where there are no numbers it stays as it is.
+pub(crate) fn numbered_args(
+    alloc: Global,
+    cx: &mut Cx,
+    numbers: &[u32],
+    args: Args,
+) -> Result<Args, Stop>
+{
+    if numbers.is_empty() {
+        return Ok(args);
+    }
+    renumbered(alloc, cx, numbers, args)
+}
+
+/// The clauses, with their variables numbered anew.
+fn renumbered_clauses(
+    alloc: Global,
+    cx: &mut Cx,
+    numbers: &[u32],
+    clauses: &[Clause],
+) -> Result<Vec<Clause>, Stop>
+{
+    let mut list = Vec::new(alloc);
+    for i in 0..clauses.len() {
+        list.push(renumbered(alloc, cx, numbers, clauses[i])?)?;
+    }
+    Ok(list)
+}
+
+/// What the variable of that number is: its kind and its universe.
+fn open_variable(inference: &Inference, number: u32) -> CanonicalVar
+{
+    match inference.entry(number) {
+        Some(entry) => CanonicalVar {
+            kind: entry.kind,
+            universe: entry.universe,
+        },
+        None => CanonicalVar {
+            kind: VariableKind::Region,
+            universe: 0,
+        },
+    }
+}
+
+/// What the variables of these numbers are. The only stop is `Stop::Memory`.
+pub(crate) fn open_variables(
+    alloc: Global,
+    inference: &Inference,
+    numbers: &[u32],
+) -> Result<Vec<CanonicalVar>, Stop>
+{
+    let mut list = Vec::new(alloc);
+    for i in 0..numbers.len() {
+        list.push(open_variable(inference, numbers[i]))?;
+    }
+    Ok(list)
+}
+
+/// The response of what is known, with that certainty. It stops as its parts do; the nodes that were made stay then.
+fn response(
+    alloc: Global,
+    cx: &mut Cx,
+    inference: &Inference,
+    certainty: Certainty,
+) -> Result<CanonicalResponse, Stop>
+{
+    let values = root_values(alloc, cx, inference)?;
+    let regions = constraints(alloc, cx, inference)?;
+    let numbers = numbers_of(alloc, cx, values, regions.as_slice())?;
+    let vars = open_variables(alloc, inference, numbers.as_slice())?;
+    let new_values = numbered_args(alloc, cx, numbers.as_slice(), values)?;
+    let new_regions = renumbered_clauses(alloc, cx, numbers.as_slice(), regions.as_slice())?;
+    Ok(CanonicalResponse {
+        vars,
+        values: new_values,
+        regions: new_regions,
+        certainty,
+    })
+}
+
+impl Rounds {
+    /// The response of what is known, with that certainty. Nothing that is pending is evaluated; nodes are made, and nothing else is
+    /// changed. `Stop::Memory` comes where a growth was refused, `Stop::NodesFull` where no numbers are left, a tree would be higher than
+    /// 1,024, or the variables that are left open or the children of a node are too many. After a stop the nodes that were made stay.
+    pub fn make_canonical_response(
+        &mut self,
+        alloc: Global,
+        certainty: Certainty,
+    ) -> Result<CanonicalResponse, Stop>
+    {
+        response(alloc, &mut self.cx, &self.inference, certainty)
+    }
+}

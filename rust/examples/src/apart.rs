@@ -1,0 +1,44 @@
+// Made of `crates/examples/src/apart.rt` by `bench/plain.py`: an edit of this file is lost.
+
+//! What keeps two impls apart.
+
+
+use kit::{eprintln, format, prelude::*, print, println, vec};
+use candidate_ir::decl::contents::ImplId;
+use candidate_ir::ir::stop::Stop;
+use candidate_rounds::rounds::Rounds;
+use overlaps::overlap::{Overlap, WhereClause, impls_overlap};
+use kit::alloc::Global;
+
+/// What keeps two impls of a trait apart.
+#[derive(Clone, Copy, Debug, PartialEq, Eq)]
+pub enum Reason {
+    /// Their headers have no common instance.
+    Headers,
+    /// This where clause of one of them, where the headers are equal.
+    Clause(WhereClause),
+}
+
+/// What keeps the two impls apart, in so many rounds for each where clause, if anything does.
+///
+/// After `Headers` no reference is an instance of both, whatever the aliases are that aren't listed. After `Clause` what that clause asks for
+/// was refused, where the headers are equal: each declared impl that overlaps it was, but for `default` impls and those with an alias in
+/// their header, of which nothing is said. And so was what it implies, or else no header without aliases overlaps it that a crate may write
+/// which it doesn't name. An alias is equal to itself alone, unless it is listed or the evaluator opens aliases: a clause may be refused that
+/// holds by the alias's type, and the impls overlap. Impls of two traits, and numbers that are none, are kept apart by nothing of these.
+/// Where clauses decide in coherence alone. After `None` the two are of different traits, or their overlap is allowed, or each where clause of
+/// both was asked and none is refused. It is the same whichever impl is given first. A stop is no answer.
+pub fn kept_apart(
+    alloc: Global,
+    rounds: &mut Rounds,
+    first: ImplId,
+    second: ImplId,
+    count: u16,
+) -> Result<Option<Reason>, Stop>
+{
+    match impls_overlap(alloc, rounds, first, second, count)? {
+        Overlap::DisjointHeaders => Ok(Some(Reason::Headers)),
+        Overlap::DisjointClause(clause) => Ok(Some(Reason::Clause(clause))),
+        Overlap::NoCommonTrait | Overlap::Allowed(_) | Overlap::May(_) => Ok(None),
+    }
+}

@@ -1,0 +1,285 @@
+// Made of `crates/overlaps/src/overlap.rt` by `bench/plain.py`: an edit of this file is lost.
+
+//! Two impls of a trait overlap where a reference may be an instance of both.
+
+
+use kit::{eprintln, format, prelude::*, print, println, vec};
+use crate::allowance::{Allowance, allowance_of_ordered};
+use crate::answered::are_answered;
+use crate::clauses::first_refused;
+use crate::instance::{CommonInstance, common_instance};
+use crate::opening::{Pair, open_both};
+use crate::order::in_order;
+use crate::plain::make_equal;
+use candidate_eval::eval::context::{EvalCtxt, ProbeKind};
+use candidate_rounds::rounds::Rounds;
+use ir_context::decl::Cx;
+use ir_context::decl::make::{Build, Make};
+use ir_trees::decl::contents::ImplId;
+use ir_trees::ir::heads::Flag;
+use ir_trees::ir::kinds::ParamEnv;
+use ir_trees::ir::stop::Stop;
+use ir_trees::ir::trees::Trees;
+use kit::alloc::Global;
+
+/// A where clause of one of two impls.
+#[derive(Clone, Copy, Debug, PartialEq, Eq)]
+pub struct WhereClause {
+    /// The impl.
+    pub of: ImplId,
+    /// Its place among those of the impl, from 0 on.
+    pub number: usize,
+}
+
+/// Whether two impls overlap.
+#[derive(Clone, Copy, Debug, PartialEq, Eq)]
+pub enum Overlap {
+    /// They are no impls of one trait.
+    NoCommonTrait,
+    /// Whether they overlap isn't asked, since it is no error.
+    Allowed(Allowance),
+    /// No reference is an instance of both headers, whatever the aliases in them are.
+    DisjointHeaders,
+    /// Where the headers are equal, this where clause is refused.
+    DisjointClause(WhereClause),
+    /// They may, as far as is known, at that reference.
+    May(CommonInstance),
+}
+
+/// Whether both are impls of one trait.
+pub(crate) fn have_common_trait(cx: &Cx, first: ImplId, second: ImplId) -> bool
+{
+    let Some(one) = cx.impl_contents(first) else {
+        return false;
+    };
+    let Some(other) = cx.impl_contents(second) else {
+        return false;
+    };
+    one.trait_ref.def_id == other.trait_ref.def_id
+}
+
+/// Whether an alias stands in one of the headers.
+pub(crate) fn have_aliases(cx: &Cx, pair: &Pair) -> bool
+{
+    cx.has(pair.first.header, Flag::Alias) || cx.has(pair.second.header, Flag::Alias)
+}
+
+/// Whether an equation of the headers decides nothing: an alias stands in one of them, and one that isn't listed would be itself alone.
+pub(crate) fn are_undecided(rounds: &Rounds, pair: &Pair) -> bool
+{
+    if rounds.opens_aliases() {
+        return false;
+    }
+    have_aliases(rounds.cx(), pair)
+}
+
+/// The first where clause of the two impls that is refused in so many rounds, those of the first impl before those of the second.
+pub(crate) fn refused_clause(
+    alloc: Global,
+    rounds: &mut Rounds,
+    env: ParamEnv,
+    pair: &Pair,
+    count: u16,
+) -> Result<Option<WhereClause>, Stop>
+{
+    let first = &pair.first;
+    let clauses = first.wheres.as_slice();
+    if let Some(number) = first_refused(alloc, rounds, env, clauses, first.locals, count)? {
+        let of = first.of;
+        return Ok(Some(WhereClause { of, number }));
+    }
+    let second = &pair.second;
+    let clauses = second.wheres.as_slice();
+    if let Some(number) = first_refused(alloc, rounds, env, clauses, second.locals, count)? {
+        let of = second.of;
+        return Ok(Some(WhereClause { of, number }));
+    }
+    Ok(None)
+}
+
+/// Whether both impls are known to hold where their headers are equal: no alias stands in these, and each where clause is answered.
+fn are_certain(alloc: Global, rounds: &mut Rounds, env: ParamEnv, pair: &Pair) -> Result<bool, Stop>
+{
+    if have_aliases(rounds.cx(), pair) {
+        return Ok(false);
+    }
+    are_answered(alloc, rounds, env, pair)
+}
+
+/// Whether two open impls overlap, whose headers are equal.
+fn overlap_where_equal(
+    alloc: Global,
+    rounds: &mut Rounds,
+    env: ParamEnv,
+    pair: &Pair,
+    count: u16,
+) -> Result<Overlap, Stop>
+{
+    if let Some(clause) = refused_clause(alloc, rounds, env, pair, count)? {
+        return Ok(Overlap::DisjointClause(clause));
+    }
+    let is_certain = are_certain(alloc, rounds, env, pair)?;
+    let instance = common_instance(alloc, rounds, &pair.first, is_certain)?;
+    Ok(Overlap::May(instance))
+}
+
+/// The answer, which isn't certain where the headers' equation leaks a region.
+fn unless_leaking(answer: Overlap, leaks: bool) -> Overlap
+{
+    if !leaks {
+        return answer;
+    }
+    match answer {
+        Overlap::May(CommonInstance { trait_ref, .. }) => Overlap::May(CommonInstance {
+            trait_ref,
+            is_certain: false,
+        }),
+        answer => answer,
+    }
+}
+
+/// Whether two open impls overlap, whose headers are equal, told whether their equation leaks a region: then nothing is certain.
+fn overlap_unless_leaking(
+    alloc: Global,
+    rounds: &mut Rounds,
+    env: ParamEnv,
+    pair: &Pair,
+    count: u16,
+    leaks: bool,
+) -> Result<Overlap, Stop>
+{
+    let answer = overlap_where_equal(alloc, rounds, env, pair, count)?;
+    Ok(unless_leaking(answer, leaks))
+}
+
+/// Whether two open impls overlap, whose headers are made equal. What that leaves pending is set aside then.
+fn overlap_of_pair(
+    alloc: Global,
+    rounds: &mut Rounds,
+    pair: &Pair,
+    count: u16,
+) -> Result<Overlap, Stop>
+{
+    if are_undecided(rounds, pair) {
+        let instance = common_instance(alloc, rounds, &pair.first, false)?;
+        return Ok(Overlap::May(instance));
+    }
+    let above = rounds.newest_universe();
+    let env = rounds.mk_param_env(&[])?;
+    if !make_equal(rounds, env, pair.first.header, pair.second.header)? {
+        return Ok(Overlap::DisjointHeaders);
+    }
+    let leaks = rounds.leaks_above(alloc, above)?;
+    let aside = rounds.begin_probe(ProbeKind::SetAside)?;
+    let answer = overlap_unless_leaking(alloc, rounds, env, pair, count, leaks);
+    rounds.end_probe(aside);
+    answer
+}
+
+/// Whether the two impls overlap, where what is found to be known stays known.
+fn overlap_here(
+    alloc: Global,
+    rounds: &mut Rounds,
+    first: ImplId,
+    second: ImplId,
+    count: u16,
+) -> Result<Overlap, Stop>
+{
+    rounds.cx().recall_well_formed_table();
+    rounds.recall_given();
+    let Some(pair) = open_both(alloc, rounds, first, second)? else {
+        return Ok(Overlap::NoCommonTrait);
+    };
+    overlap_of_pair(alloc, rounds, &pair, count)
+}
+
+/// Whether the two impls overlap where nothing is pending, in a probe that is set aside, so that all stays but the table.
+fn overlap_aside(
+    alloc: Global,
+    rounds: &mut Rounds,
+    first: ImplId,
+    second: ImplId,
+    count: u16,
+) -> Result<Overlap, Stop>
+{
+    if !have_common_trait(rounds.cx(), first, second) {
+        return Ok(Overlap::NoCommonTrait);
+    }
+    let probe = rounds.begin_probe(ProbeKind::SetAside)?;
+    let answer = overlap_here(alloc, rounds, first, second, count);
+    rounds.end_probe(probe);
+    answer
+}
+
+/// Whether the two impls overlap, unless what they declare allows it.
+fn overlap_of_ordered(
+    alloc: Global,
+    rounds: &mut Rounds,
+    first: ImplId,
+    second: ImplId,
+    count: u16,
+) -> Result<Overlap, Stop>
+{
+    if let Some(reason) = allowance_of_ordered(rounds.cx(), first, second) {
+        return Ok(Overlap::Allowed(reason));
+    }
+    overlap_aside(alloc, rounds, first, second, count)
+}
+
+/// Whether two impls of a trait may overlap: a reference may be an instance of both.
+///
+/// It is the same whichever of the two is given first: all is done with them in the order of their numbers. With fresh variables for the
+/// parameters of both, their headers are made equal; and then each where clause that says something of a trait, of the impl of the lower number
+/// and then of the other, is run for so many rounds and computed, with all values put in. `NoCommonTrait` comes where the numbers aren't those of
+/// two impls of one trait, `Allowed` where `allowance_of` has a reason, `DisjointHeaders` where the headers can't be made equal, and
+/// `DisjointClause` of the first clause that is refused. Else it is `May`, with what is an instance of both headers, unless an alias stands in
+/// one, and whether it is certain that both impls hold of it.
+///
+/// Where the evaluator opens aliases (`Rounds::with_open_aliases`), one that isn't listed may be any type: headers in which one stands are
+/// disjoint if they are so whatever it is. That it and what stands in its place are one, which their equation leaves pending, is set aside.
+///
+/// What isn't known decides nothing: headers in which an alias stands, where aliases aren't open, clauses that have one once the headers are
+/// equal, or a variable that their binder binds, and any clause where goals aren't asked for in coherence: there each is run, and a Yes counts.
+/// Neither does a clause whose trait may lead to an auto trait with an impl for some types of a head alone that bars no others, as `Send` for
+/// `Foo<u8>` without `by_head`, but for a refusal of a goal without variables: of other goals an instance may have another answer, and where
+/// one holds here rustc may refuse it. Of the goals that a clause leads to the evaluator may refuse some by an alias that it doesn't normalise
+/// and that isn't open, be it in a goal or in an impl's header: then a clause may be named, and the two overlap by the alias's type. Of impls
+/// with an alias in their header, and of `default` ones, the contract says nothing.
+///
+/// Where it is `May`, each where clause of both was asked at what the headers' equation leaves, one after the other, and stays for a reason that
+/// the contract has: it says nothing of a trait; in coherence nothing is decided by its goal; in another mode the goal was run, if it stands;
+/// or the goal was run for so many rounds, and then had an answer, or was refused where a variable stands in it and it may lead to an auto
+/// trait with an impl that bars no head, or to unsizing. No clause is asked where the headers' equation decides nothing. Where it is
+/// `DisjointClause`, each clause before that one was asked, and stays in the same way. Where it is uncertain, an alias stands in a header, a
+/// region leaks, or the contract names a clause and why the table doesn't make it certain.
+///
+/// A region leaks where the headers are equal if a placeholder, which stands for a region that a binder of them binds, stands in the value of
+/// a variable that can't name it, or has to outlive `'static`, another placeholder or a variable of an older universe. Nothing is certain then.
+///
+/// All that is known, what is pending and the open probes stay, whatever is answered; the table has what the rounds have found. The stops
+/// are those of growing a list, of making nodes and of the evaluator, and those of `Rounds::run` and `compute_trait_goal`.
+pub fn impls_overlap(
+    alloc: Global,
+    rounds: &mut Rounds,
+    first: ImplId,
+    second: ImplId,
+    count: u16,
+) -> Result<Overlap, Stop>
+{
+    let pair = in_order(first, second);
+    overlap_of_ordered(alloc, rounds, pair.0, pair.1, count)
+}
+
+/// Whether the two impls overlap, whatever the two declare: that one is a reservation, or said to specialise the other, isn't looked at, and `Allowed` is no
+/// answer.
+pub fn impls_overlap_anyway(
+    alloc: Global,
+    rounds: &mut Rounds,
+    first: ImplId,
+    second: ImplId,
+    count: u16,
+) -> Result<Overlap, Stop>
+{
+    let pair = in_order(first, second);
+    overlap_aside(alloc, rounds, pair.0, pair.1, count)
+}

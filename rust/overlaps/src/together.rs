@@ -1,0 +1,545 @@
+// Made of `crates/overlaps/src/together.rt` by `bench/plain.py`: an edit of this file is lost.
+
+//! Where clauses of two impls that can't hold together: what one of them gives is known to the others, and what projections in them are.
+
+
+use kit::{eprintln, format, prelude::*, print, println, vec};
+use crate::auto::{clause_may_rest_on_part, refuses_instances};
+use crate::clauses::is_predicate_refused;
+use crate::negation::make_one_equal;
+use crate::opening::{Opened, Pair, open_both};
+use crate::order::in_order;
+use crate::overlap::have_common_trait;
+use crate::plain::{is_in_coherence, make_equal};
+use candidate_assembly::assembly::opaques::with_type_for;
+use candidate_eval::eval::certainty::Certainty;
+use candidate_eval::eval::clauses::{predicate_in, substitute};
+use candidate_eval::eval::context::{EvalCtxt, ProbeKind};
+use candidate_eval::eval::refusal::NoSolutionOrStop;
+use candidate_eval::eval::response::CanonicalResponse;
+use candidate_rounds::rounds::Rounds;
+use candidate_rounds::rounds::goals::Verdict;
+use candidate_rounds::rounds::normalizing::trait_predicate;
+use ir_context::decl::Cx;
+use ir_context::decl::make::{Build, Make};
+use ir_trees::decl::contents::ImplId;
+use ir_trees::ir::heads::Flag;
+use ir_trees::ir::kinds::{
+    AliasKind, AliasTy, Args, Clause, ClauseKind, GenericArg, Goal, GoalSource, ParamEnv,
+    TraitPredicate, Ty, TyKind,
+};
+use ir_trees::ir::stop::Stop;
+use ir_trees::ir::trees::Trees;
+use kit::alloc::Global;
+
+/// What normalising a projection says of it.
+#[derive(Clone, Copy, Debug)]
+pub(crate) enum ProjectionType {
+    /// Nothing sure.
+    Open,
+    /// What it says can't be.
+    Impossible,
+    /// That it is this type.
+    Type(Ty),
+}
+
+/// A goal that has to hold, with where it comes from.
+type Obligation = (GoalSource, Goal<Clause>);
+
+/// How deep it is looked for a projection: no tree is higher.
+const MAX_STEPS: u32 = 1024;
+
+/// How often goals are tried at most.
+const MAX_PASSES: u32 = 8;
+
+/// The first child of a number in which an alias stands.
+fn child_with_alias(cx: &Cx, number: u32) -> Option<u32>
+{
+    for place in 0..usize::MAX {
+        let child = cx.child(number, place)?;
+        if cx.marks(child).has(Flag::Alias) {
+            return Some(child);
+        }
+    }
+    None
+}
+
+/// The projection that a number is.
+fn projection_at(cx: &Cx, number: u32) -> Option<(Ty, AliasTy)>
+{
+    let Some(GenericArg::Ty(ty)) = cx.argument(number) else {
+        return None;
+    };
+    let TyKind::Alias(alias) = cx.kind(ty) else {
+        return None;
+    };
+    match alias.kind {
+        AliasKind::Projection => Some((ty, alias)),
+        _ => None,
+    }
+}
+
+/// A projection in the clause in whose arguments no alias stands, if the first of such aliases is one.
+fn projection_in(cx: &Cx, clause: Clause) -> Option<(Ty, AliasTy)>
+{
+    let mut number = clause.0;
+    for _step in 0..MAX_STEPS {
+        let Some(child) = child_with_alias(cx, number) else {
+            break;
+        };
+        number = child;
+    }
+    projection_at(cx, number)
+}
+
+/// What the clause says of a projection: that it is the type.
+fn said_of_projection(cx: &Cx, clause: Clause) -> Option<(AliasTy, Ty)>
+{
+    cx.recall_well_formed();
+    match cx.clause(clause).value {
+        ClauseKind::Projection(said) => {
+            let of = said.projection_term;
+            Some((AliasTy::projection(of.def_id, of.args), said.term))
+        }
+        _ => None,
+    }
+}
+
+/// The goal is left, as it is. The only stop is `Stop::Memory`, here and in the next.
+fn keep(left: &mut Vec<Obligation>, goal: Obligation) -> Result<bool, Stop>
+{
+    left.push(goal)?;
+    Ok(false)
+}
+
+/// The goals that are pending are left, and no goal is pending then.
+fn leave_pending(alloc: Global, rounds: &mut Rounds, left: &mut Vec<Obligation>) -> Result<(), Stop>
+{
+    let goals = rounds.take_pending(alloc)?;
+    left.extend_from_slice(goals.as_slice())?;
+    Ok(())
+}
+
+/// What the response says of the projection is given, if it is sure.
+fn give_sure(
+    alloc: Global,
+    rounds: &mut Rounds,
+    env: ParamEnv,
+    alias: AliasTy,
+    response: &CanonicalResponse,
+) -> Result<ProjectionType, Stop>
+{
+    match response.certainty {
+        Certainty::Yes => (),
+        Certainty::Maybe(_) => return Ok(ProjectionType::Open),
+    }
+    match rounds.give_normal(alloc, env, alias, response) {
+        Ok(ty) => Ok(ProjectionType::Type(ty)),
+        Err(NoSolutionOrStop::NoSolution) => Ok(ProjectionType::Impossible),
+        Err(NoSolutionOrStop::Stop(stop)) => Err(stop),
+    }
+}
+
+/// What was last written for the goal, if it stands at what is known and anything was.
+fn verdict_here(
+    alloc: Global,
+    rounds: &mut Rounds,
+    env: ParamEnv,
+    predicate: TraitPredicate,
+) -> Result<Option<Verdict>, Stop>
+{
+    if !rounds.stands_here(alloc, env, predicate) {
+        return Ok(None);
+    }
+    rounds.entry(alloc, env, predicate)
+}
+
+/// Whether the table has no answer for the goal that may still become another one.
+fn may_be_sure(verdict: &Option<Verdict>) -> bool {
+    match verdict {
+        Some(Verdict::Maybe(_, _)) => false,
+        Some(Verdict::Yes(_, _) | Verdict::Refused) | None => true,
+    }
+}
+
+/// Whether the goal, which may be run, holds after that many rounds at most. It stops as `Rounds::run` does.
+fn is_proved(
+    alloc: Global,
+    rounds: &mut Rounds,
+    env: ParamEnv,
+    predicate: TraitPredicate,
+    count: u16,
+) -> Result<bool, Stop>
+{
+    match rounds.run(alloc, env, predicate, count)? {
+        Verdict::Yes(_, _) => Ok(true),
+        Verdict::Maybe(_, _) | Verdict::Refused => Ok(false),
+    }
+}
+
+/// What the projection is, where its arguments are those that it takes, and its trait's goal stands at what is known, and says nothing of a type of which
+/// an instance is otherwise: it is normalised in that many rounds, if that goal holds by then. So no further round takes back what is answered.
+fn normal(
+    alloc: Global,
+    rounds: &mut Rounds,
+    env: ParamEnv,
+    alias: AliasTy,
+    count: u16,
+) -> Result<Option<CanonicalResponse>, Stop>
+{
+    if !rounds.cx().args_fit(TyKind::Alias(alias)) {
+        return Ok(None);
+    }
+    let predicate = trait_predicate(rounds.cx(), alias);
+    if !may_be_sure(&verdict_here(alloc, rounds, env, predicate)?) {
+        return Ok(None);
+    }
+    if !rounds.stands_here(alloc, env, predicate) {
+        return Ok(None);
+    }
+    if !rounds.may_be_run(alloc, env, predicate)? {
+        return Ok(None);
+    }
+    if !is_proved(alloc, rounds, env, predicate, count)? {
+        return Ok(None);
+    }
+    if !refuses_instances(alloc, rounds.cx(), predicate.trait_ref)? {
+        return Ok(None);
+    }
+    rounds.normalize(alloc, env, alias, count)
+}
+
+/// The type that the projection is, where a sure answer says it: what that says of variables is known then.
+fn projected(
+    alloc: Global,
+    rounds: &mut Rounds,
+    env: ParamEnv,
+    alias: AliasTy,
+    count: u16,
+) -> Result<ProjectionType, Stop>
+{
+    match normal(alloc, rounds, env, alias, count)? {
+        Some(response) => give_sure(alloc, rounds, env, alias, &response),
+        None => Ok(ProjectionType::Open),
+    }
+}
+
+/// The type that the projection is stands in its place in what is left of the goal; it is the answer whether it can't be.
+fn put_type(
+    alloc: Global,
+    rounds: &mut Rounds,
+    goal: Obligation,
+    projection: (Ty, AliasTy),
+    count: u16,
+    left: &mut Vec<Obligation>,
+) -> Result<bool, Stop>
+{
+    let param_env = goal.1.param_env;
+    match projected(alloc, rounds, param_env, projection.1, count)? {
+        ProjectionType::Open => keep(left, goal),
+        ProjectionType::Impossible => Ok(true),
+        ProjectionType::Type(ty) => {
+            let predicate = with_type_for(alloc, rounds, projection.0, ty, goal.1.predicate)?;
+            let goal = (
+                goal.0,
+                Goal {
+                    param_env,
+                    predicate,
+                },
+            );
+            left.push(goal)?;
+            leave_pending(alloc, rounds, left)?;
+            Ok(false)
+        }
+    }
+}
+
+/// The projection is made equal to what a clause says that it is; it is the answer whether it can't be.
+fn make_term_equal(
+    alloc: Global,
+    rounds: &mut Rounds,
+    goal: Obligation,
+    said: (AliasTy, Ty),
+    count: u16,
+    left: &mut Vec<Obligation>,
+) -> Result<bool, Stop>
+{
+    let env = goal.1.param_env;
+    let term = GenericArg::Ty(said.1);
+    match projected(alloc, rounds, env, said.0, count)? {
+        ProjectionType::Open => keep(left, goal),
+        ProjectionType::Impossible => Ok(true),
+        ProjectionType::Type(ty) => {
+            if !make_one_equal(rounds, env, GenericArg::Ty(ty), term)? {
+                return Ok(true);
+            }
+            leave_pending(alloc, rounds, left)?;
+            Ok(false)
+        }
+    }
+}
+
+/// The goal alone is evaluated, unless it may rest on an impl for a part of the types with a head, and what it gives is known then; it is the answer
+/// whether it is refused.
+fn settle(
+    alloc: Global,
+    rounds: &mut Rounds,
+    goal: Obligation,
+    left: &mut Vec<Obligation>,
+) -> Result<bool, Stop>
+{
+    if clause_may_rest_on_part(alloc, rounds.cx(), goal.1.predicate)? {
+        return keep(left, goal);
+    }
+    rounds.add_goal(goal.0, goal.1)?;
+    match rounds.try_evaluate_added_goals() {
+        Ok(_) => {
+            leave_pending(alloc, rounds, left)?;
+            Ok(false)
+        }
+        Err(NoSolutionOrStop::NoSolution) => Ok(true),
+        Err(NoSolutionOrStop::Stop(stop)) => Err(stop),
+    }
+}
+
+/// Whether the goal is refused in so many rounds, for a reason that decides, in a probe, so that what is known stays.
+fn is_refused_here(
+    alloc: Global,
+    rounds: &mut Rounds,
+    env: ParamEnv,
+    predicate: TraitPredicate,
+    count: u16,
+) -> Result<bool, Stop>
+{
+    let probe = rounds.begin_probe(ProbeKind::Kept)?;
+    let answer = is_predicate_refused(alloc, rounds, env, predicate, count);
+    rounds.end_probe(probe);
+    answer
+}
+
+/// Whether the table has a Yes for the goal.
+fn is_yes(verdict: &Option<Verdict>) -> bool {
+    matches!(verdict, Some(Verdict::Yes(_, _)))
+}
+
+/// A goal of a trait is run for so many rounds, if the table has no answer for it that may stay: a refusal refuses it, and a Yes gives its values.
+fn try_trait(
+    alloc: Global,
+    rounds: &mut Rounds,
+    goal: Obligation,
+    predicate: TraitPredicate,
+    count: u16,
+    left: &mut Vec<Obligation>,
+) -> Result<bool, Stop>
+{
+    let env = goal.1.param_env;
+    let verdict = verdict_here(alloc, rounds, env, predicate)?;
+    if !may_be_sure(&verdict) {
+        return keep(left, goal);
+    }
+    if !is_yes(&verdict) && is_refused_here(alloc, rounds, env, predicate, count)? {
+        return Ok(true);
+    }
+    if !is_yes(&verdict_here(alloc, rounds, env, predicate)?) {
+        return keep(left, goal);
+    }
+    settle(alloc, rounds, goal, left)
+}
+
+/// A goal in which all values are put in is taken up: a projection in it gets its type, or what it says is asked.
+fn try_with_values(
+    alloc: Global,
+    rounds: &mut Rounds,
+    goal: Obligation,
+    count: u16,
+    left: &mut Vec<Obligation>,
+) -> Result<bool, Stop>
+{
+    let clause = goal.1.predicate;
+    if let Some(projection) = projection_in(rounds.cx(), clause) {
+        return put_type(alloc, rounds, goal, projection, count, left);
+    }
+    if let Some(said) = said_of_projection(rounds.cx(), clause) {
+        return make_term_equal(alloc, rounds, goal, said, count, left);
+    }
+    match predicate_in(rounds.cx(), clause) {
+        Some(predicate) => try_trait(alloc, rounds, goal, predicate, count, left),
+        None => settle(alloc, rounds, goal, left),
+    }
+}
+
+/// A goal is taken up with all values put in, if it asks without an environment, as this one is; else it is left.
+fn try_goal(
+    alloc: Global,
+    rounds: &mut Rounds,
+    env: ParamEnv,
+    goal: Obligation,
+    count: u16,
+    left: &mut Vec<Obligation>,
+) -> Result<bool, Stop>
+{
+    let Goal {
+        param_env,
+        predicate,
+    } = goal.1;
+    if param_env != env {
+        return keep(left, goal);
+    }
+    let predicate = rounds.resolve_clause_if_possible(predicate)?;
+    let goal = (
+        goal.0,
+        Goal {
+            param_env,
+            predicate,
+        },
+    );
+    try_with_values(alloc, rounds, goal, count, left)
+}
+
+/// All goals are taken up, one after the other: what is left in their place, or nothing, where they can't hold together.
+fn try_all(
+    alloc: Global,
+    rounds: &mut Rounds,
+    env: ParamEnv,
+    goals: &[Obligation],
+    count: u16,
+) -> Result<Option<Vec<Obligation>>, Stop>
+{
+    let mut left = Vec::new(alloc);
+    for i in 0..goals.len() {
+        if try_goal(alloc, rounds, env, goals[i], count, &mut left)? {
+            return Ok(None);
+        }
+    }
+    Ok(Some(left))
+}
+
+/// Whether both are of the same clauses.
+fn are_same(one: &[Obligation], other: &[Obligation]) -> bool {
+    if one.len() != other.len() {
+        return false;
+    }
+    for i in 0..one.len() {
+        if i >= other.len() || one[i].1.predicate != other[i].1.predicate {
+            return false;
+        }
+    }
+    true
+}
+
+/// Whether goals can't hold together: they are taken up until that changes nothing, but so often at most.
+fn cannot_hold(
+    alloc: Global,
+    rounds: &mut Rounds,
+    env: ParamEnv,
+    goals: Vec<Obligation>,
+    count: u16,
+) -> Result<bool, Stop>
+{
+    let mut goals = goals;
+    for _pass in 0..MAX_PASSES {
+        match try_all(alloc, rounds, env, goals.as_slice(), count)? {
+            Some(left) => {
+                if are_same(left.as_slice(), goals.as_slice()) {
+                    return Ok(false);
+                }
+                goals = left;
+            }
+            None => return Ok(true),
+        }
+    }
+    Ok(false)
+}
+
+/// The goals that an open impl's where clauses are come after those that are there.
+fn add_wheres(
+    alloc: Global,
+    rounds: &mut Rounds,
+    env: ParamEnv,
+    of: &Opened,
+    goals: &mut Vec<Obligation>,
+) -> Result<(), Stop>
+{
+    for number in 0..of.wheres.len() {
+        let predicate = substitute(alloc, rounds, of.wheres[number], of.locals)?;
+        let goal = Goal {
+            param_env: env,
+            predicate,
+        };
+        goals.push((GoalSource::ImplWhereBound, goal))?;
+    }
+    Ok(())
+}
+
+/// Whether the where clauses of two open impls can't hold together where their headers are made equal.
+fn apart_of_pair(alloc: Global, rounds: &mut Rounds, pair: &Pair, count: u16) -> Result<bool, Stop>
+{
+    let env = rounds.mk_param_env(&[])?;
+    if !make_equal(rounds, env, pair.first.header, pair.second.header)? {
+        return Ok(false);
+    }
+    let mut goals = Vec::new(alloc);
+    leave_pending(alloc, rounds, &mut goals)?;
+    add_wheres(alloc, rounds, env, &pair.first, &mut goals)?;
+    add_wheres(alloc, rounds, env, &pair.second, &mut goals)?;
+    cannot_hold(alloc, rounds, env, goals, count)
+}
+
+/// Whether the where clauses of two impls can't hold together, where what is found to be known stays known.
+fn apart_here(
+    alloc: Global,
+    rounds: &mut Rounds,
+    first: ImplId,
+    second: ImplId,
+    count: u16,
+) -> Result<bool, Stop>
+{
+    let Some(pair) = open_both(alloc, rounds, first, second)? else {
+        return Ok(false);
+    };
+    apart_of_pair(alloc, rounds, &pair, count)
+}
+
+/// Whether the where clauses of two impls can't hold together, in a probe in which nothing is pending, so that all stays but the table.
+fn apart_aside(
+    alloc: Global,
+    rounds: &mut Rounds,
+    first: ImplId,
+    second: ImplId,
+    count: u16,
+) -> Result<bool, Stop>
+{
+    let probe = rounds.begin_probe(ProbeKind::SetAside)?;
+    let answer = apart_here(alloc, rounds, first, second, count);
+    rounds.end_probe(probe);
+    answer
+}
+
+/// Whether the where clauses of two impls of a trait can't hold together, though none of them is refused alone.
+///
+/// With fresh variables for the parameters of both, their headers are made equal. What that leaves pending and all where clauses of both are
+/// goals then, which are taken up in order, again and again while that changes one of them, but eight times at most. A projection is normalised
+/// in so many rounds, and where a sure answer says what it is, that stands in its place. A goal of a trait is run for so many rounds, unless the
+/// table has an answer for it. A refusal that decides refuses all, and so does an equation that can't be; what a Yes gives is known to the
+/// others. A goal of a trait that may lead to an auto trait with an impl for some types of a head alone gives nothing.
+///
+/// It is asked in coherence where the evaluator opens aliases, and else it is a no, as it is where the numbers aren't those of two impls of one
+/// trait, and where their headers can't be made equal. Of a no nothing is said. All that is known, what is pending and the open probes stay,
+/// whatever is answered; the table has what the rounds have found. The stops are those of `impls_overlap` and of `Rounds::normalize`.
+pub fn kept_apart_by_clauses(
+    alloc: Global,
+    rounds: &mut Rounds,
+    first: ImplId,
+    second: ImplId,
+    count: u16,
+) -> Result<bool, Stop>
+{
+    if !rounds.opens_aliases() {
+        return Ok(false);
+    }
+    if !have_common_trait(rounds.cx(), first, second) {
+        return Ok(false);
+    }
+    let pair = in_order(first, second);
+    apart_aside(alloc, rounds, pair.0, pair.1, count)
+}
