@@ -19,20 +19,16 @@
 //! alone, so the two don't overlap.
 //!
 //! ```
-//! use rilgomut::{
-//!     impls_overlap, Binder, Build, ClauseKind, Cx, DeclsBuilder, GenericArg, Global, ImplPolarity, Overlap, PredicatePolarity, Rounds,
-//!     TraitFlags, TraitId, TraitPredicate, TraitRef, TyKind, TypingMode, UintTy, VarKind,
-//! };
-//! use std::error::Error;
+//! use rilgomut::*;
 //!
 //! /// The reference `TYPE: TRAIT`.
-//! fn reference(builder: &mut DeclsBuilder, def_id: TraitId, kind: TyKind) -> Result<TraitRef, Box<dyn Error>> {
+//! fn reference(builder: &mut DeclsBuilder, def_id: TraitId, kind: TyKind) -> Result<TraitRef, Stop> {
 //!     let ty = builder.mk_ty(kind)?;
 //!     let args = builder.mk_args(&[GenericArg::Ty(ty)])?;
 //!     Ok(TraitRef { def_id, args })
 //! }
 //!
-//! # fn main() -> Result<(), Box<dyn Error>> {
+//! # fn main() -> Result<(), Box<dyn std::error::Error>> {
 //! let mut builder = DeclsBuilder::new(Global);
 //! let (this, other) = (builder.add_crate()?, builder.add_crate()?);
 //! builder.set_local(this);
@@ -49,15 +45,19 @@
 //! let header = reference(&mut builder, show, TyKind::Param(0))?;
 //! let second = builder.add_impl(this, &[VarKind::Ty], header, ImplPolarity::Positive)?;
 //! let trait_ref = reference(&mut builder, known, TyKind::Param(0))?;
-//! let bound = ClauseKind::Trait(TraitPredicate { trait_ref, polarity: PredicatePolarity::Positive });
+//! let polarity = PredicatePolarity::Positive;
+//! let bound = ClauseKind::Trait(TraitPredicate { trait_ref, polarity });
 //! let vars = builder.mk_vars(&[])?;
 //! let bound = builder.mk_clause(Binder { vars, value: bound })?;
 //! builder.push_impl_where(second, bound)?;
 //!
 //! let cx = Cx::new(builder.finish()?);
-//! let mut rounds = Rounds::with_open_aliases(Global, cx, TypingMode::Coherence, vec![].into(), vec![].into());
+//! let (normal, opaque) = (vec![].into(), vec![].into());
+//! let mode = TypingMode::Coherence;
+//! let mut rounds = Rounds::with_open_aliases(Global, cx, mode, normal, opaque);
 //! let overlap = impls_overlap(Global, &mut rounds, first, second, 65_535)?;
-//! assert!(matches!(overlap, Overlap::DisjointClause(clause) if clause.of == second && clause.number == 0));
+//! let clause = WhereClause { of: second, number: 0 };
+//! assert_eq!(overlap, Overlap::DisjointClause(clause));
 //! # Ok(())
 //! # }
 //! ```
@@ -69,8 +69,8 @@
 //! - **Declarations come first**, by a [`DeclsBuilder`]. Its `finish` tests them, and its error says what is wrong.
 //! - **A number of rounds** says how far is looked. A goal that waits for another one is computed again in the next round. 65,535 is the most, and a run ends
 //!   by itself when nothing changes any more.
-//! - **No answer is no lie.** [`Stop`] says that a call gave up: memory, a limit, a type that is too large. `Maybe` and [`Overlap::May`] say that it isn't
-//!   known.
+//! - **Giving up is no answer.** [`Stop`] says that a call gave up: memory, a limit, a type that is too large. `Maybe` and [`Overlap::May`] say that it
+//!   isn't known.
 //! - **Numbers of one context aren't numbers of another.** A debug build panics with the name of the call that is given such a number, as far as it can tell
 //!   it: a number that no node has, or one of another sort. A release build doesn't ask. It may then answer for another type, or panic at an index. It
 //!   does nothing undefined: there is no `unsafe` in the library.
