@@ -199,7 +199,7 @@ def with_errors(name):
 
 def added(name):
     """What else a crate's root gets."""
-    return plain_checks.HELPER if name == "ir_trees" else ""
+    return plain_checks.helper() if name == "ir_trees" else ""
 
 
 def described(text):

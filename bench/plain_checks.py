@@ -5,12 +5,17 @@ A contract says of a number what it has to be, as `requires env { IsParamEnv rou
 a `debug_assert!` at the body's beginning. Clauses of another form are passed over.
 """
 
+import os
 import re
 
 FUNCTION = re.compile(r"^(?P<at> *)(?P<pub>pub )?(?:final )?fn (?P<name>\w+)")
 HOLDER = re.compile(r"^(?:pub )?(?P<kind>impl|trait)\b.*?(?P<name>\w+)(?:<[^{]*)?(?:: [^{]*)? \{$")
 GOAL = re.compile(r"^\s*requires(?: \w+)? \{ IsGoal trait_kind (?P<trees>\([^)]*\)|[\w.]+) (?P<env>\w+) (?P<of>\w+) \}$")
 REQUIRES = re.compile(r"^\s*requires(?: \w+)? \{ (?P<sort>Is(?:Ty|Const|Region|Args|Arg|Clause|ParamEnv)) (?P<trees>\([^)]*\)\.trees|\(trees self\.\w+\)|[\w.]+\.trees) (?P<of>[a-z][\w.]*) \}$")
+
+MADE = re.compile(r"^\s*requires \{ \(what new\)\.making\.fits self\.old \}$")
+
+WHOLE = "all of `new`"
 
 # By what a call reaches the context whose trees a clause names.
 CONTEXTS = [
@@ -20,55 +25,13 @@ CONTEXTS = [
     (re.compile(r"\([A-Z]\w*\.context (?P<of>ecx|make|infcx)\.old\)\.trees$"), "{make}::cx(&*{of})"),
 ]
 
-HELPER = '''
-/// What debug builds ask of numbers.
-#[doc(hidden)]
-pub mod checks {
-    use crate::ir::kinds::{Args, Clause, Const, GenericArg, ParamEnv, Region, Ty};
-    use crate::ir::node::Node;
-    use crate::ir::numbered::Numbered;
-    use crate::ir::trees::Trees;
+HERE = os.path.dirname(os.path.abspath(__file__))
 
-    /// Numbers of one sort.
-    pub trait Sorted: Copy {
-        fn is_of<T: Trees + ?Sized>(self, trees: &T) -> bool;
-    }
 
-    macro_rules! sorted {
-        ($($of:ident by $pattern:pat),*) => {
-            $(impl Sorted for $of {
-                fn is_of<T: Trees + ?Sized>(self, trees: &T) -> bool {
-                    matches!(trees.node(self.0), $pattern)
-                }
-            })*
-        };
-    }
-
-    sorted!(
-        Ty by Node::Ty(_),
-        Const by Node::Const(_),
-        Region by Node::Region(_),
-        Args by Node::Args(_),
-        Clause by Node::Clause(_),
-        ParamEnv by Node::Clauses(_)
-    );
-
-    impl Sorted for GenericArg {
-        fn is_of<T: Trees + ?Sized>(self, trees: &T) -> bool {
-            match self {
-                GenericArg::Ty(ty) => ty.is_of(trees),
-                GenericArg::Const(constant) => constant.is_of(trees),
-                GenericArg::Region(region) => region.is_of(trees),
-            }
-        }
-    }
-
-    /// Whether it is a number of these trees, and of its sort.
-    pub fn is_sorted<T: Trees + ?Sized, S: Sorted>(trees: &T, of: S) -> bool {
-        std::panic::catch_unwind(std::panic::AssertUnwindSafe(|| of.is_of(trees))).unwrap_or(false)
-    }
-}
-'''
+def helper():
+    """What debug builds ask of numbers, as Rust, for the root of `ir_trees`."""
+    with open(os.path.join(HERE, "plain", "cargo", "numbers.rs")) as given:
+        return "\n" + given.read()
 
 
 def reached(trees, make):
@@ -82,12 +45,21 @@ def reached(trees, make):
 
 def asked_of(line):
     """What a clause asks to be numbers of their sorts, each with whose trees: a line of a contract may ask it of a goal's parts."""
+    if MADE.match(line):
+        return [("self.old.trees", WHOLE)]
     found, goal = REQUIRES.match(line), GOAL.match(line)
     if found:
         return [(found["trees"], found["of"].removesuffix(".now"))]
     if goal:
         return [(goal["trees"] + ".trees", of) for of in (goal["env"], goal["of"] + ".trait_ref.args")]
     return []
+
+
+def asserted(call, below, context, of):
+    """The line that asks it of a number, or of all numbers in what is to be made."""
+    if of == WHOLE:
+        return f'debug_assert!({below}::checks::is_made_of({context}, &new), "{call}: {{new:?}} has a number that is none of its sort in this context");'
+    return f'debug_assert!({below}::checks::is_sorted({context}, {of}), "{call}: `{of}` is {{:?}}, no number of its sort in this context", {of});'
 
 
 def with_checks(crate, module, text):
@@ -107,8 +79,7 @@ def with_checks(crate, module, text):
         lines.append(line)
         if call and line == call[0] + "{":
             for context, of in taken:
-                said = f'"{call[1]}: `{of}` is no number of its sort in this context"'
-                lines.append(f"{call[0]}    debug_assert!({below}::checks::is_sorted({context}, {of}), {said});")
+                lines.append(call[0] + "    " + asserted(call[1], below, context, of))
             call = None
         elif call and (line.startswith(call[0] + "}") or line.endswith(";") and not line.startswith(call[0] + "  ")):
             call = None

@@ -210,7 +210,7 @@ where
 
     // What passes in `Proper` is overlapped by no header of another crate, where neither names the other's crate.
 {
-    debug_assert!(ir_trees::checks::is_sorted(ir_context::decl::make::Make::cx(&*infcx), trait_ref.args), "candidate_eval::coherence::orphan_check_trait_ref: `trait_ref.args` is no number of its sort in this context");
+    debug_assert!(ir_trees::checks::is_sorted(ir_context::decl::make::Make::cx(&*infcx), trait_ref.args), "candidate_eval::coherence::orphan_check_trait_ref: `trait_ref.args` is {:?}, no number of its sort in this context", trait_ref.args);
     infcx.cx().recall_well_formed(); // so the reference is one of the declared world
     let levels = infcx.cx().limits().orphan_walk;
     check(alloc, infcx, trait_ref, in_crate, &mut normalize, levels)
@@ -226,7 +226,7 @@ pub fn trait_ref_is_local_or_fundamental(cx: &Cx, trait_ref: TraitRef) -> bool
 /// what the promises on headers ask of one. An error region is refused too, though they don't ask it.
 pub fn trait_ref_is_plain(cx: &Cx, trait_ref: TraitRef) -> bool
 {
-    debug_assert!(ir_trees::checks::is_sorted(&*cx, trait_ref.args), "candidate_eval::coherence::trait_ref_is_plain: `trait_ref.args` is no number of its sort in this context");
+    debug_assert!(ir_trees::checks::is_sorted(&*cx, trait_ref.args), "candidate_eval::coherence::trait_ref_is_plain: `trait_ref.args` is {:?}, no number of its sort in this context", trait_ref.args);
     !cx.has(trait_ref.args, Flag::Alias) && !cx.has(trait_ref.args, Flag::Error)
 }
 
@@ -283,7 +283,7 @@ where
     E: Drop,
     F: FnMut(&mut C, Ty) -> Result<Ty, NormalizeErr<E>>,
 {
-    debug_assert!(ir_trees::checks::is_sorted(ir_context::decl::make::Make::cx(&*infcx), trait_ref.args), "candidate_eval::coherence::knowable: `trait_ref.args` is no number of its sort in this context");
+    debug_assert!(ir_trees::checks::is_sorted(ir_context::decl::make::Make::cx(&*infcx), trait_ref.args), "candidate_eval::coherence::knowable: `trait_ref.args` is {:?}, no number of its sort in this context", trait_ref.args);
     let levels = infcx.cx().limits().orphan_walk;
     knowable_within(alloc, infcx, trait_ref, normalize, levels)
 }
@@ -314,7 +314,7 @@ where
 
     // Known by its own types, it is overlapped by no covered header that names nothing of the local crate.
 {
-    debug_assert!(ir_trees::checks::is_sorted(ir_context::decl::make::Make::cx(&*infcx), trait_ref.args), "candidate_eval::coherence::trait_ref_is_knowable: `trait_ref.args` is no number of its sort in this context");
+    debug_assert!(ir_trees::checks::is_sorted(ir_context::decl::make::Make::cx(&*infcx), trait_ref.args), "candidate_eval::coherence::trait_ref_is_knowable: `trait_ref.args` is {:?}, no number of its sort in this context", trait_ref.args);
     infcx.cx().recall_well_formed(); // so the reference is one of the declared world
     knowable(alloc, infcx, trait_ref, &mut normalize)
 }

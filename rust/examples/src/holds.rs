@@ -25,8 +25,8 @@ pub fn holds(
     count: u16,
 ) -> Result<bool, Stop>
 {
-    debug_assert!(ir_trees::checks::is_sorted(ir_context::decl::make::Make::cx(&*rounds), env), "examples::holds::holds: `env` is no number of its sort in this context");
-    debug_assert!(ir_trees::checks::is_sorted(ir_context::decl::make::Make::cx(&*rounds), predicate.trait_ref.args), "examples::holds::holds: `predicate.trait_ref.args` is no number of its sort in this context");
+    debug_assert!(ir_trees::checks::is_sorted(ir_context::decl::make::Make::cx(&*rounds), env), "examples::holds::holds: `env` is {:?}, no number of its sort in this context", env);
+    debug_assert!(ir_trees::checks::is_sorted(ir_context::decl::make::Make::cx(&*rounds), predicate.trait_ref.args), "examples::holds::holds: `predicate.trait_ref.args` is {:?}, no number of its sort in this context", predicate.trait_ref.args);
     if !rounds.stands_here(alloc, env, predicate) {
         return Ok(false);
     }

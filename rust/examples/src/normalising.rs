@@ -47,7 +47,7 @@ pub fn checked_by_reference(
     in_crate: InCrate,
 ) -> Result<Result<(), OrphanCheckErr<Ty>>, OrphanStop<Infallible>>
 {
-    debug_assert!(ir_trees::checks::is_sorted(&*cx, trait_ref.args), "examples::normalising::checked_by_reference: `trait_ref.args` is no number of its sort in this context");
+    debug_assert!(ir_trees::checks::is_sorted(&*cx, trait_ref.args), "examples::normalising::checked_by_reference: `trait_ref.args` is {:?}, no number of its sort in this context", trait_ref.args);
     orphan_check_trait_ref(
         alloc,
         cx,
@@ -66,8 +66,8 @@ pub fn checked_as(
     seen: Ty,
 ) -> Result<Result<(), OrphanCheckErr<Ty>>, OrphanStop<Infallible>>
 {
-    debug_assert!(ir_trees::checks::is_sorted(&*cx, trait_ref.args), "examples::normalising::checked_as: `trait_ref.args` is no number of its sort in this context");
-    debug_assert!(ir_trees::checks::is_sorted(&*cx, seen), "examples::normalising::checked_as: `seen` is no number of its sort in this context");
+    debug_assert!(ir_trees::checks::is_sorted(&*cx, trait_ref.args), "examples::normalising::checked_as: `trait_ref.args` is {:?}, no number of its sort in this context", trait_ref.args);
+    debug_assert!(ir_trees::checks::is_sorted(&*cx, seen), "examples::normalising::checked_as: `seen` is {:?}, no number of its sort in this context", seen);
     orphan_check_trait_ref(
         alloc,
         cx,

@@ -45,7 +45,7 @@ pub fn is_refused_by_all(
     count: u16,
 ) -> Result<bool, Stop>
 {
-    debug_assert!(ir_trees::checks::is_sorted(ir_context::decl::make::Make::cx(&*rounds), predicate.trait_ref.args), "examples::refused::is_refused_by_all: `predicate.trait_ref.args` is no number of its sort in this context");
+    debug_assert!(ir_trees::checks::is_sorted(ir_context::decl::make::Make::cx(&*rounds), predicate.trait_ref.args), "examples::refused::is_refused_by_all: `predicate.trait_ref.args` is {:?}, no number of its sort in this context", predicate.trait_ref.args);
     let env = rounds.mk_param_env(&[])?;
     if !may_decide(alloc, rounds, env, predicate)? {
         return Ok(false);

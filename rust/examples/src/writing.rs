@@ -75,7 +75,7 @@ pub fn vec_from_local(declared: &mut Declared) -> Result<TraitRef, Stop>
 /// no such reference. A check that gives up is a stop, and no answer.
 pub fn may_write(alloc: Global, cx: &mut Cx, trait_ref: TraitRef) -> Result<bool, Stop>
 {
-    debug_assert!(ir_trees::checks::is_sorted(&*cx, trait_ref.args), "examples::writing::may_write: `trait_ref.args` is no number of its sort in this context");
+    debug_assert!(ir_trees::checks::is_sorted(&*cx, trait_ref.args), "examples::writing::may_write: `trait_ref.args` is {:?}, no number of its sort in this context", trait_ref.args);
     // What the check asks of a reference, and what its promise asks besides.
     if cx.has_param(trait_ref) || !trait_ref_is_plain(cx, trait_ref) {
         return Ok(false);

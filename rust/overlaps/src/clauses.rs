@@ -27,8 +27,8 @@ pub fn may_decide(
     predicate: TraitPredicate,
 ) -> Result<bool, Stop>
 {
-    debug_assert!(ir_trees::checks::is_sorted(ir_context::decl::make::Make::cx(&*rounds), env), "overlaps::clauses::may_decide: `env` is no number of its sort in this context");
-    debug_assert!(ir_trees::checks::is_sorted(ir_context::decl::make::Make::cx(&*rounds), predicate.trait_ref.args), "overlaps::clauses::may_decide: `predicate.trait_ref.args` is no number of its sort in this context");
+    debug_assert!(ir_trees::checks::is_sorted(ir_context::decl::make::Make::cx(&*rounds), env), "overlaps::clauses::may_decide: `env` is {:?}, no number of its sort in this context", env);
+    debug_assert!(ir_trees::checks::is_sorted(ir_context::decl::make::Make::cx(&*rounds), predicate.trait_ref.args), "overlaps::clauses::may_decide: `predicate.trait_ref.args` is {:?}, no number of its sort in this context", predicate.trait_ref.args);
     let args = predicate.trait_ref.args;
     if !is_without_aliases(rounds, args) {
         return Ok(false);

@@ -18,9 +18,9 @@ impl NormalizesTo {
     /// neither a parameter nor an escaping bound variable in them or in the term.
     pub fn may_be_asked(self, cx: &Cx, param_env: ParamEnv) -> bool
     {
-        debug_assert!(ir_trees::checks::is_sorted(&*cx, param_env), "projection_goals::asked::NormalizesTo::may_be_asked: `param_env` is no number of its sort in this context");
-        debug_assert!(ir_trees::checks::is_sorted(&*cx, self.alias.args), "projection_goals::asked::NormalizesTo::may_be_asked: `self.alias.args` is no number of its sort in this context");
-        debug_assert!(ir_trees::checks::is_sorted(&*cx, self.term), "projection_goals::asked::NormalizesTo::may_be_asked: `self.term` is no number of its sort in this context");
+        debug_assert!(ir_trees::checks::is_sorted(&*cx, param_env), "projection_goals::asked::NormalizesTo::may_be_asked: `param_env` is {:?}, no number of its sort in this context", param_env);
+        debug_assert!(ir_trees::checks::is_sorted(&*cx, self.alias.args), "projection_goals::asked::NormalizesTo::may_be_asked: `self.alias.args` is {:?}, no number of its sort in this context", self.alias.args);
+        debug_assert!(ir_trees::checks::is_sorted(&*cx, self.term), "projection_goals::asked::NormalizesTo::may_be_asked: `self.term` is {:?}, no number of its sort in this context", self.term);
         let _ = param_env;
         self.fits(cx) && self.is_closed(cx)
     }
@@ -60,8 +60,8 @@ impl NormalizesTo {
     /// then.
     pub fn mentioned<M: Make>(self, alloc: Global, make: &mut M) -> Result<Args, Stop>
     {
-        debug_assert!(ir_trees::checks::is_sorted(ir_context::decl::make::Make::cx(&*make), self.alias.args), "projection_goals::asked::NormalizesTo::mentioned: `self.alias.args` is no number of its sort in this context");
-        debug_assert!(ir_trees::checks::is_sorted(ir_context::decl::make::Make::cx(&*make), self.term), "projection_goals::asked::NormalizesTo::mentioned: `self.term` is no number of its sort in this context");
+        debug_assert!(ir_trees::checks::is_sorted(ir_context::decl::make::Make::cx(&*make), self.alias.args), "projection_goals::asked::NormalizesTo::mentioned: `self.alias.args` is {:?}, no number of its sort in this context", self.alias.args);
+        debug_assert!(ir_trees::checks::is_sorted(ir_context::decl::make::Make::cx(&*make), self.term), "projection_goals::asked::NormalizesTo::mentioned: `self.term` is {:?}, no number of its sort in this context", self.term);
         let mut list = Vec::from_slice(alloc, make.cx().args(self.alias.args))?;
         list.push(GenericArg::Ty(self.term))?;
         make.mk_args(list.as_slice())

@@ -71,9 +71,10 @@
 //!   by itself when nothing changes any more.
 //! - **Giving up is no answer.** [`Stop`] says that a call gave up: memory, a limit, a type that is too large. `Maybe` and [`Overlap::May`] say that it
 //!   isn't known.
-//! - **Numbers of one context aren't numbers of another.** A debug build panics with the name of the call that is given such a number, as far as it can tell
-//!   it: a number that no node has, or one of another sort. A release build doesn't ask. It may then answer for another type, or panic at an index. It
-//!   does nothing undefined: there is no `unsafe` in the library.
+//! - **Numbers of one context aren't numbers of another.** A debug build panics where a call is given a number that no node has, or one of another sort. It
+//!   tells the call's name and the number. That a number is another context's can't be told where this one has such a number, too. A release build doesn't
+//!   ask. It may then answer for another type, or panic at an index. It does nothing undefined: there is no `unsafe` in the library. Of declarations
+//!   `finish` asks it in each build.
 //! - [`run_text`] reads declarations and queries as lines of text, without any of this.
 //!
 //! The calls take an allocator, [`Global`], as their sources do, and lists of the kit, which are made of those of Rust's std by `into()`.

@@ -410,8 +410,8 @@ pub fn characterize_param_env_assumption<E: EvalCtxt>(
     clause: Clause,
 ) -> Result<(ParamEnvSource, Certainty), NoSolutionOrStop>
 {
-    debug_assert!(ir_trees::checks::is_sorted(ir_context::decl::make::Make::cx(&*ecx), env), "candidate_assembly::assembly::characterize::characterize_param_env_assumption: `env` is no number of its sort in this context");
-    debug_assert!(ir_trees::checks::is_sorted(ir_context::decl::make::Make::cx(&*ecx), clause), "candidate_assembly::assembly::characterize::characterize_param_env_assumption: `clause` is no number of its sort in this context");
+    debug_assert!(ir_trees::checks::is_sorted(ir_context::decl::make::Make::cx(&*ecx), env), "candidate_assembly::assembly::characterize::characterize_param_env_assumption: `env` is {:?}, no number of its sort in this context", env);
+    debug_assert!(ir_trees::checks::is_sorted(ir_context::decl::make::Make::cx(&*ecx), clause), "candidate_assembly::assembly::characterize::characterize_param_env_assumption: `clause` is {:?}, no number of its sort in this context", clause);
     match walk(alloc, ecx, env, clause) {
         Ok(Some(certainty)) => Ok((ParamEnvSource::NonGlobal, certainty)),
         Ok(None) => Ok((ParamEnvSource::Global, Certainty::Yes)),

@@ -170,7 +170,7 @@ pub trait GoalKind<E: EvalCtxt>: Copy {
         then: F,
     ) -> Result<Candidate, NoSolutionOrStop>
     {
-        debug_assert!(ir_trees::checks::is_sorted(ir_context::decl::make::Make::cx(&*ecx), clause), "candidate_assembly::assembly::kind::GoalKind::probe_and_match_goal_against_assumption: `clause` is no number of its sort in this context");
+        debug_assert!(ir_trees::checks::is_sorted(ir_context::decl::make::Make::cx(&*ecx), clause), "candidate_assembly::assembly::kind::GoalKind::probe_and_match_goal_against_assumption: `clause` is {:?}, no number of its sort in this context", clause);
         if Self::fast_reject_assumption(ecx.cx(), env, predicate, clause).is_err() {
             return Err(NoSolutionOrStop::NoSolution);
         }
@@ -194,7 +194,7 @@ pub trait GoalKind<E: EvalCtxt>: Copy {
         clause: Clause,
     ) -> Result<Result<Candidate, CandidateHeadUsages>, Stop>
     {
-        debug_assert!(ir_trees::checks::is_sorted(ir_context::decl::make::Make::cx(&*ecx), clause), "candidate_assembly::assembly::kind::GoalKind::probe_and_consider_param_env_candidate: `clause` is no number of its sort in this context");
+        debug_assert!(ir_trees::checks::is_sorted(ir_context::decl::make::Make::cx(&*ecx), clause), "candidate_assembly::assembly::kind::GoalKind::probe_and_consider_param_env_candidate: `clause` is {:?}, no number of its sort in this context", clause);
         if Self::fast_reject_assumption(ecx.cx(), env, predicate, clause).is_err() {
             return Ok(Err(CandidateHeadUsages::new(alloc)));
         }

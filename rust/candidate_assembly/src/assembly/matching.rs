@@ -93,7 +93,7 @@ pub fn probe_and_consider_implied_clause<E: EvalCtxt, G: GoalKind<E>>(
     requirements: &[(GoalSource, Clause)],
 ) -> Result<Candidate, NoSolutionOrStop>
 {
-    debug_assert!(ir_trees::checks::is_sorted(ir_context::decl::make::Make::cx(&*ecx), clause), "candidate_assembly::assembly::matching::probe_and_consider_implied_clause: `clause` is no number of its sort in this context");
+    debug_assert!(ir_trees::checks::is_sorted(ir_context::decl::make::Make::cx(&*ecx), clause), "candidate_assembly::assembly::matching::probe_and_consider_implied_clause: `clause` is {:?}, no number of its sort in this context", clause);
     G::probe_and_match_goal_against_assumption(
         alloc,
         ecx,

@@ -130,7 +130,7 @@ pub fn probe_and_consider_object_bound_candidate<E: EvalCtxt, G: GoalKind<E>>(
     clause: Clause,
 ) -> Result<Candidate, NoSolutionOrStop>
 {
-    debug_assert!(ir_trees::checks::is_sorted(ir_context::decl::make::Make::cx(&*ecx), clause), "candidate_assembly::assembly::object_bounds::probe_and_consider_object_bound_candidate: `clause` is no number of its sort in this context");
+    debug_assert!(ir_trees::checks::is_sorted(ir_context::decl::make::Make::cx(&*ecx), clause), "candidate_assembly::assembly::object_bounds::probe_and_consider_object_bound_candidate: `clause` is {:?}, no number of its sort in this context", clause);
     recall_well_formed_table(ecx.cx());
     if G::fast_reject_assumption(ecx.cx(), env, predicate, clause).is_err() {
         return Err(NoSolutionOrStop::NoSolution);

@@ -207,9 +207,9 @@ pub fn with_type_for<M: Make>(
     clause: Clause,
 ) -> Result<Clause, Stop>
 {
-    debug_assert!(ir_trees::checks::is_sorted(ir_context::decl::make::Make::cx(&*make), old), "candidate_assembly::assembly::opaques::with_type_for: `old` is no number of its sort in this context");
-    debug_assert!(ir_trees::checks::is_sorted(ir_context::decl::make::Make::cx(&*make), new), "candidate_assembly::assembly::opaques::with_type_for: `new` is no number of its sort in this context");
-    debug_assert!(ir_trees::checks::is_sorted(ir_context::decl::make::Make::cx(&*make), clause), "candidate_assembly::assembly::opaques::with_type_for: `clause` is no number of its sort in this context");
+    debug_assert!(ir_trees::checks::is_sorted(ir_context::decl::make::Make::cx(&*make), old), "candidate_assembly::assembly::opaques::with_type_for: `old` is {:?}, no number of its sort in this context", old);
+    debug_assert!(ir_trees::checks::is_sorted(ir_context::decl::make::Make::cx(&*make), new), "candidate_assembly::assembly::opaques::with_type_for: `new` is {:?}, no number of its sort in this context", new);
+    debug_assert!(ir_trees::checks::is_sorted(ir_context::decl::make::Make::cx(&*make), clause), "candidate_assembly::assembly::opaques::with_type_for: `clause` is {:?}, no number of its sort in this context", clause);
     if !make.cx().has(clause, Flag::Alias) {
         return Ok(clause);
     }

@@ -90,7 +90,7 @@ pub fn consider_with_nested<E: EvalCtxt>(
     certainty: Certainty,
 ) -> Result<Candidate, NoSolutionOrStop>
 {
-    debug_assert!(ir_trees::checks::is_sorted(ir_context::decl::make::Make::cx(&*ecx), env), "candidate_assembly::assembly::steps::consider_with_nested: `env` is no number of its sort in this context");
+    debug_assert!(ir_trees::checks::is_sorted(ir_context::decl::make::Make::cx(&*ecx), env), "candidate_assembly::assembly::steps::consider_with_nested: `env` is {:?}, no number of its sort in this context", env);
     if !applies {
         return Err(NoSolutionOrStop::NoSolution);
     }
@@ -109,7 +109,7 @@ pub fn consider_unconditional<E: EvalCtxt>(
     certainty: Certainty,
 ) -> Result<Candidate, NoSolutionOrStop>
 {
-    debug_assert!(ir_trees::checks::is_sorted(ir_context::decl::make::Make::cx(&*ecx), env), "candidate_assembly::assembly::steps::consider_unconditional: `env` is no number of its sort in this context");
+    debug_assert!(ir_trees::checks::is_sorted(ir_context::decl::make::Make::cx(&*ecx), env), "candidate_assembly::assembly::steps::consider_unconditional: `env` is {:?}, no number of its sort in this context", env);
     let source = CandidateSource::BuiltinImpl(BuiltinImplSource::Misc);
     let nested = GoalSource::Misc;
     consider_with_nested(alloc, ecx, env, applies, nested, &[], source, certainty)
@@ -123,6 +123,6 @@ pub fn forced_ambiguity<E: EvalCtxt>(
     maybe: MaybeInfo,
 ) -> Result<Candidate, NoSolutionOrStop>
 {
-    debug_assert!(ir_trees::checks::is_sorted(ir_context::decl::make::Make::cx(&*ecx), env), "candidate_assembly::assembly::steps::forced_ambiguity: `env` is no number of its sort in this context");
+    debug_assert!(ir_trees::checks::is_sorted(ir_context::decl::make::Make::cx(&*ecx), env), "candidate_assembly::assembly::steps::forced_ambiguity: `env` is {:?}, no number of its sort in this context", env);
     consider_unconditional(alloc, ecx, env, true, Certainty::Maybe(maybe))
 }

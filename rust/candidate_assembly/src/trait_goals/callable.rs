@@ -52,9 +52,9 @@ pub fn equate_inputs<E: EvalCtxt>(
     inputs: Ty,
 ) -> Result<(), NoSolutionOrStop>
 {
-    debug_assert!(ir_trees::checks::is_sorted(ir_context::decl::make::Make::cx(&*ecx), env), "candidate_assembly::trait_goals::callable::equate_inputs: `env` is no number of its sort in this context");
-    debug_assert!(ir_trees::checks::is_sorted(ir_context::decl::make::Make::cx(&*ecx), trait_ref.args), "candidate_assembly::trait_goals::callable::equate_inputs: `trait_ref.args` is no number of its sort in this context");
-    debug_assert!(ir_trees::checks::is_sorted(ir_context::decl::make::Make::cx(&*ecx), inputs), "candidate_assembly::trait_goals::callable::equate_inputs: `inputs` is no number of its sort in this context");
+    debug_assert!(ir_trees::checks::is_sorted(ir_context::decl::make::Make::cx(&*ecx), env), "candidate_assembly::trait_goals::callable::equate_inputs: `env` is {:?}, no number of its sort in this context", env);
+    debug_assert!(ir_trees::checks::is_sorted(ir_context::decl::make::Make::cx(&*ecx), trait_ref.args), "candidate_assembly::trait_goals::callable::equate_inputs: `trait_ref.args` is {:?}, no number of its sort in this context", trait_ref.args);
+    debug_assert!(ir_trees::checks::is_sorted(ir_context::decl::make::Make::cx(&*ecx), inputs), "candidate_assembly::trait_goals::callable::equate_inputs: `inputs` is {:?}, no number of its sort in this context", inputs);
     let ty = self_ty(ecx.cx(), trait_ref);
     let called = ecx.mk_args(&[GenericArg::Ty(ty), GenericArg::Ty(inputs)])?;
     if !ecx
@@ -77,8 +77,8 @@ pub fn respond_if_sized<E: EvalCtxt>(
     output: Ty,
 ) -> Result<Candidate, NoSolutionOrStop>
 {
-    debug_assert!(ir_trees::checks::is_sorted(ir_context::decl::make::Make::cx(&*ecx), env), "candidate_assembly::trait_goals::callable::respond_if_sized: `env` is no number of its sort in this context");
-    debug_assert!(ir_trees::checks::is_sorted(ir_context::decl::make::Make::cx(&*ecx), output), "candidate_assembly::trait_goals::callable::respond_if_sized: `output` is no number of its sort in this context");
+    debug_assert!(ir_trees::checks::is_sorted(ir_context::decl::make::Make::cx(&*ecx), env), "candidate_assembly::trait_goals::callable::respond_if_sized: `env` is {:?}, no number of its sort in this context", env);
+    debug_assert!(ir_trees::checks::is_sorted(ir_context::decl::make::Make::cx(&*ecx), output), "candidate_assembly::trait_goals::callable::respond_if_sized: `output` is {:?}, no number of its sort in this context", output);
     let clause = meets_trait(ecx, sized, output)?;
     let source = CandidateSource::BuiltinImpl(BuiltinImplSource::Misc);
     let nested = GoalSource::ImplWhereBound;

@@ -43,8 +43,8 @@ pub fn compute_trait_goal<E: EvalCtxt>(
     predicate: TraitPredicate,
 ) -> Result<(CanonicalResponse, Option<TraitGoalProvenVia>), NoSolutionOrStop>
 {
-    debug_assert!(ir_trees::checks::is_sorted(ir_context::decl::make::Make::cx(&*ecx), env), "candidate_assembly::trait_goals::compute::compute_trait_goal: `env` is no number of its sort in this context");
-    debug_assert!(ir_trees::checks::is_sorted(ir_context::decl::make::Make::cx(&*ecx), predicate.trait_ref.args), "candidate_assembly::trait_goals::compute::compute_trait_goal: `predicate.trait_ref.args` is no number of its sort in this context");
+    debug_assert!(ir_trees::checks::is_sorted(ir_context::decl::make::Make::cx(&*ecx), env), "candidate_assembly::trait_goals::compute::compute_trait_goal: `env` is {:?}, no number of its sort in this context", env);
+    debug_assert!(ir_trees::checks::is_sorted(ir_context::decl::make::Make::cx(&*ecx), predicate.trait_ref.args), "candidate_assembly::trait_goals::compute::compute_trait_goal: `predicate.trait_ref.args` is {:?}, no number of its sort in this context", predicate.trait_ref.args);
     recall_declared(ecx.cx());
     let from = AssembleCandidatesFrom::All;
     let (candidates, failed) = assemble_and_evaluate_candidates(alloc, ecx, env, predicate, from)?;

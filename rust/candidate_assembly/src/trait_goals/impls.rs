@@ -134,8 +134,8 @@ pub fn nest_clauses<E: EvalCtxt>(
     locals: Args,
 ) -> Result<(), Stop>
 {
-    debug_assert!(ir_trees::checks::is_sorted(ir_context::decl::make::Make::cx(&*ecx), env), "candidate_assembly::trait_goals::impls::nest_clauses: `env` is no number of its sort in this context");
-    debug_assert!(ir_trees::checks::is_sorted(ir_context::decl::make::Make::cx(&*ecx), locals), "candidate_assembly::trait_goals::impls::nest_clauses: `locals` is no number of its sort in this context");
+    debug_assert!(ir_trees::checks::is_sorted(ir_context::decl::make::Make::cx(&*ecx), env), "candidate_assembly::trait_goals::impls::nest_clauses: `env` is {:?}, no number of its sort in this context", env);
+    debug_assert!(ir_trees::checks::is_sorted(ir_context::decl::make::Make::cx(&*ecx), locals), "candidate_assembly::trait_goals::impls::nest_clauses: `locals` is {:?}, no number of its sort in this context", locals);
     for clause in clauses {
         let predicate = substitute(alloc, ecx, *clause, locals)?;
         ecx.add_goal(
@@ -254,8 +254,8 @@ pub fn consider_impl<
     then: F,
 ) -> Result<Candidate, NoSolutionOrStop>
 {
-    debug_assert!(ir_trees::checks::is_sorted(ir_context::decl::make::Make::cx(&*ecx), env), "candidate_assembly::trait_goals::impls::consider_impl: `env` is no number of its sort in this context");
-    debug_assert!(ir_trees::checks::is_sorted(ir_context::decl::make::Make::cx(&*ecx), predicate.trait_ref.args), "candidate_assembly::trait_goals::impls::consider_impl: `predicate.trait_ref.args` is no number of its sort in this context");
+    debug_assert!(ir_trees::checks::is_sorted(ir_context::decl::make::Make::cx(&*ecx), env), "candidate_assembly::trait_goals::impls::consider_impl: `env` is {:?}, no number of its sort in this context", env);
+    debug_assert!(ir_trees::checks::is_sorted(ir_context::decl::make::Make::cx(&*ecx), predicate.trait_ref.args), "candidate_assembly::trait_goals::impls::consider_impl: `predicate.trait_ref.args` is {:?}, no number of its sort in this context", predicate.trait_ref.args);
     let mode = ecx.typing_mode();
     let Some(certainty) = certainty_by(ecx.cx(), mode, env, predicate, of) else {
         return Err(NoSolutionOrStop::NoSolution);

@@ -72,7 +72,7 @@ pub fn instantiate_clause_with_infer<E: EvalCtxt>(
     clause: Clause,
 ) -> Result<Clause, Stop>
 {
-    debug_assert!(ir_trees::checks::is_sorted(ir_context::decl::make::Make::cx(&*ecx), clause), "candidate_eval::eval::binders::instantiate_clause_with_infer: `clause` is no number of its sort in this context");
+    debug_assert!(ir_trees::checks::is_sorted(ir_context::decl::make::Make::cx(&*ecx), clause), "candidate_eval::eval::binders::instantiate_clause_with_infer: `clause` is {:?}, no number of its sort in this context", clause);
     let kinds = binder_kinds(alloc, ecx.cx(), clause)?;
     let values = ecx.fresh_args_for_item(kinds.as_slice())?;
     open_clause(alloc, ecx, clause, values)
@@ -82,7 +82,7 @@ pub fn instantiate_clause_with_infer<E: EvalCtxt>(
 /// `enter_binder` does.
 pub fn enter_clause<E: EvalCtxt>(alloc: Global, ecx: &mut E, clause: Clause) -> Result<Clause, Stop>
 {
-    debug_assert!(ir_trees::checks::is_sorted(ir_context::decl::make::Make::cx(&*ecx), clause), "candidate_eval::eval::binders::enter_clause: `clause` is no number of its sort in this context");
+    debug_assert!(ir_trees::checks::is_sorted(ir_context::decl::make::Make::cx(&*ecx), clause), "candidate_eval::eval::binders::enter_clause: `clause` is {:?}, no number of its sort in this context", clause);
     let kinds = binder_kinds(alloc, ecx.cx(), clause)?;
     let values = ecx.placeholder_args(kinds.as_slice())?;
     open_clause(alloc, ecx, clause, values)
@@ -97,9 +97,9 @@ pub fn open_signature<M: Make>(
     values: Args,
 ) -> Result<FnSig, Stop>
 {
-    debug_assert!(ir_trees::checks::is_sorted(ir_context::decl::make::Make::cx(&*make), under.inputs), "candidate_eval::eval::binders::open_signature: `under.inputs` is no number of its sort in this context");
-    debug_assert!(ir_trees::checks::is_sorted(ir_context::decl::make::Make::cx(&*make), under.output), "candidate_eval::eval::binders::open_signature: `under.output` is no number of its sort in this context");
-    debug_assert!(ir_trees::checks::is_sorted(ir_context::decl::make::Make::cx(&*make), values), "candidate_eval::eval::binders::open_signature: `values` is no number of its sort in this context");
+    debug_assert!(ir_trees::checks::is_sorted(ir_context::decl::make::Make::cx(&*make), under.inputs), "candidate_eval::eval::binders::open_signature: `under.inputs` is {:?}, no number of its sort in this context", under.inputs);
+    debug_assert!(ir_trees::checks::is_sorted(ir_context::decl::make::Make::cx(&*make), under.output), "candidate_eval::eval::binders::open_signature: `under.output` is {:?}, no number of its sort in this context", under.output);
+    debug_assert!(ir_trees::checks::is_sorted(ir_context::decl::make::Make::cx(&*make), values), "candidate_eval::eval::binders::open_signature: `values` is {:?}, no number of its sort in this context", values);
     let inputs = replace_bound_vars(alloc, make, under.inputs, values)?;
     let output = replace_bound_vars(alloc, make, under.output, values)?;
     Ok(FnSig {

@@ -21,7 +21,7 @@ use kit::alloc::Global;
 /// stands under the clause's binder.
 pub fn predicate_in(cx: &Cx, clause: Clause) -> Option<TraitPredicate>
 {
-    debug_assert!(ir_trees::checks::is_sorted(&*cx, clause), "candidate_eval::eval::clauses::predicate_in: `clause` is no number of its sort in this context");
+    debug_assert!(ir_trees::checks::is_sorted(&*cx, clause), "candidate_eval::eval::clauses::predicate_in: `clause` is {:?}, no number of its sort in this context", clause);
     cx.recall_well_formed();
     match cx.clause(clause).value {
         ClauseKind::Trait(predicate) => Some(predicate),
@@ -36,7 +36,7 @@ pub fn predicate_in(cx: &Cx, clause: Clause) -> Option<TraitPredicate>
 /// The self type of the reference: the first of its arguments.
 pub fn self_ty(cx: &Cx, trait_ref: TraitRef) -> Ty
 {
-    debug_assert!(ir_trees::checks::is_sorted(&*cx, trait_ref.args), "candidate_eval::eval::clauses::self_ty: `trait_ref.args` is no number of its sort in this context");
+    debug_assert!(ir_trees::checks::is_sorted(&*cx, trait_ref.args), "candidate_eval::eval::clauses::self_ty: `trait_ref.args` is {:?}, no number of its sort in this context", trait_ref.args);
     match first_type(cx.args(trait_ref.args)) {
         Some(ty) => ty,
         None => unreachable!(),
@@ -79,6 +79,6 @@ pub fn substitute<N: Numbered, E: EvalCtxt>(
 
     // Laws; those of lists follow from `list` alike.
 {
-    debug_assert!(ir_trees::checks::is_sorted(ir_context::decl::make::Make::cx(&*ecx), args), "candidate_eval::eval::clauses::substitute: `args` is no number of its sort in this context");
+    debug_assert!(ir_trees::checks::is_sorted(ir_context::decl::make::Make::cx(&*ecx), args), "candidate_eval::eval::clauses::substitute: `args` is {:?}, no number of its sort in this context", args);
     subst(alloc, ecx, of, args)
 }

@@ -33,8 +33,8 @@ pub fn is_knowable<E: EvalCtxt>(
     trait_ref: TraitRef,
 ) -> Result<Result<(), Conflict>, OrphanStop<()>>
 {
-    debug_assert!(ir_trees::checks::is_sorted(ir_context::decl::make::Make::cx(&*ecx), env), "candidate_eval::eval::knowing::is_knowable: `env` is no number of its sort in this context");
-    debug_assert!(ir_trees::checks::is_sorted(ir_context::decl::make::Make::cx(&*ecx), trait_ref.args), "candidate_eval::eval::knowing::is_knowable: `trait_ref.args` is no number of its sort in this context");
+    debug_assert!(ir_trees::checks::is_sorted(ir_context::decl::make::Make::cx(&*ecx), env), "candidate_eval::eval::knowing::is_knowable: `env` is {:?}, no number of its sort in this context", env);
+    debug_assert!(ir_trees::checks::is_sorted(ir_context::decl::make::Make::cx(&*ecx), trait_ref.args), "candidate_eval::eval::knowing::is_knowable: `trait_ref.args` is {:?}, no number of its sort in this context", trait_ref.args);
     let mut normalize = move |ecx: &mut E, ty: Ty| -> Result<Ty, NormalizeErr<()>>
     { normal_form(ecx, env, ty) };
     knowable(alloc, ecx, trait_ref, &mut normalize)

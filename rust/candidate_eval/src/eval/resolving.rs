@@ -21,7 +21,7 @@ pub fn resolve_env_if_possible<E: EvalCtxt>(
     env: ParamEnv,
 ) -> Result<ParamEnv, Stop>
 {
-    debug_assert!(ir_trees::checks::is_sorted(ir_context::decl::make::Make::cx(&*ecx), env), "candidate_eval::eval::resolving::resolve_env_if_possible: `env` is no number of its sort in this context");
+    debug_assert!(ir_trees::checks::is_sorted(ir_context::decl::make::Make::cx(&*ecx), env), "candidate_eval::eval::resolving::resolve_env_if_possible: `env` is {:?}, no number of its sort in this context", env);
     let clauses = Vec::from_slice(alloc, ecx.cx().param_env(env))?;
     let mut list = Vec::new(alloc);
     for clause in &clauses {

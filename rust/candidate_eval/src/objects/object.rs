@@ -91,9 +91,9 @@ pub fn bound_matches<E: EvalCtxt>(
     projection: AliasTerm,
 ) -> Result<bool, Stop>
 {
-    debug_assert!(ir_trees::checks::is_sorted(ir_context::decl::make::Make::cx(&*ecx), env), "candidate_eval::objects::object::bound_matches: `env` is no number of its sort in this context");
-    debug_assert!(ir_trees::checks::is_sorted(ir_context::decl::make::Make::cx(&*ecx), bound), "candidate_eval::objects::object::bound_matches: `bound` is no number of its sort in this context");
-    debug_assert!(ir_trees::checks::is_sorted(ir_context::decl::make::Make::cx(&*ecx), projection.args), "candidate_eval::objects::object::bound_matches: `projection.args` is no number of its sort in this context");
+    debug_assert!(ir_trees::checks::is_sorted(ir_context::decl::make::Make::cx(&*ecx), env), "candidate_eval::objects::object::bound_matches: `env` is {:?}, no number of its sort in this context", env);
+    debug_assert!(ir_trees::checks::is_sorted(ir_context::decl::make::Make::cx(&*ecx), bound), "candidate_eval::objects::object::bound_matches: `bound` is {:?}, no number of its sort in this context", bound);
+    debug_assert!(ir_trees::checks::is_sorted(ir_context::decl::make::Make::cx(&*ecx), projection.args), "candidate_eval::objects::object::bound_matches: `projection.args` is {:?}, no number of its sort in this context", projection.args);
     if bound_about(ecx.cx(), bound, projection.def_id).is_none() {
         return Ok(false);
     }
@@ -118,8 +118,8 @@ pub fn matching_bounds<E: EvalCtxt>(
     projection: AliasTerm,
 ) -> Result<Vec<Clause>, Stop>
 {
-    debug_assert!(ir_trees::checks::is_sorted(ir_context::decl::make::Make::cx(&*ecx), env), "candidate_eval::objects::object::matching_bounds: `env` is no number of its sort in this context");
-    debug_assert!(ir_trees::checks::is_sorted(ir_context::decl::make::Make::cx(&*ecx), projection.args), "candidate_eval::objects::object::matching_bounds: `projection.args` is no number of its sort in this context");
+    debug_assert!(ir_trees::checks::is_sorted(ir_context::decl::make::Make::cx(&*ecx), env), "candidate_eval::objects::object::matching_bounds: `env` is {:?}, no number of its sort in this context", env);
+    debug_assert!(ir_trees::checks::is_sorted(ir_context::decl::make::Make::cx(&*ecx), projection.args), "candidate_eval::objects::object::matching_bounds: `projection.args` is {:?}, no number of its sort in this context", projection.args);
     let mut found = Vec::new(alloc);
     for bound in bounds {
         if bound_matches(alloc, ecx, env, *bound, projection)? {
@@ -166,8 +166,8 @@ pub fn pick_bound<E: EvalCtxt>(
 
     // Where closed probes leave the very state before, all bounds are tried at one state.
 {
-    debug_assert!(ir_trees::checks::is_sorted(ir_context::decl::make::Make::cx(&*ecx), env), "candidate_eval::objects::object::pick_bound: `env` is no number of its sort in this context");
-    debug_assert!(ir_trees::checks::is_sorted(ir_context::decl::make::Make::cx(&*ecx), projection.args), "candidate_eval::objects::object::pick_bound: `projection.args` is no number of its sort in this context");
+    debug_assert!(ir_trees::checks::is_sorted(ir_context::decl::make::Make::cx(&*ecx), env), "candidate_eval::objects::object::pick_bound: `env` is {:?}, no number of its sort in this context", env);
+    debug_assert!(ir_trees::checks::is_sorted(ir_context::decl::make::Make::cx(&*ecx), projection.args), "candidate_eval::objects::object::pick_bound: `projection.args` is {:?}, no number of its sort in this context", projection.args);
     let found = matching_bounds(alloc, ecx, env, bounds, projection)?;
     if found.len() != 1 {
         return Err(AmbiguousOrStop::Ambiguous);

@@ -85,7 +85,7 @@ pub fn predicates_for_object_candidate<E: EvalCtxt>(
     object_bounds: Preds,
 ) -> Result<Vec<Goal<Clause>>, AmbiguousOrStop>
 {
-    debug_assert!(ir_trees::checks::is_sorted(ir_context::decl::make::Make::cx(&*ecx), env), "candidate_eval::objects::object_candidate::predicates_for_object_candidate: `env` is no number of its sort in this context");
+    debug_assert!(ir_trees::checks::is_sorted(ir_context::decl::make::Make::cx(&*ecx), env), "candidate_eval::objects::object_candidate::predicates_for_object_candidate: `env` is {:?}, no number of its sort in this context", env);
     let prepared = prepare(alloc, ecx, trait_ref, object_bounds)?;
     let (bounds, required) = (prepared.bounds.as_slice(), prepared.required.as_slice());
     let clauses = replaced(alloc, ecx, env, prepared.object, bounds, required)?;

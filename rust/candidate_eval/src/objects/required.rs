@@ -99,7 +99,7 @@ pub fn own_bounds<M: Make>(
     bounds: Preds,
 ) -> Result<Vec<Clause>, Stop>
 {
-    debug_assert!(ir_trees::checks::is_sorted(ir_context::decl::make::Make::cx(&*make), object), "candidate_eval::objects::required::own_bounds: `object` is no number of its sort in this context");
+    debug_assert!(ir_trees::checks::is_sorted(ir_context::decl::make::Make::cx(&*make), object), "candidate_eval::objects::required::own_bounds: `object` is {:?}, no number of its sort in this context", object);
     let listed = Vec::from_slice(alloc, make.cx().preds(bounds))?;
     let mut list = Vec::new(alloc);
     for bound in &listed {
@@ -204,7 +204,7 @@ pub fn requirements<M: Make>(
     trait_ref: TraitRef,
 ) -> Result<Vec<Clause>, Stop>
 {
-    debug_assert!(ir_trees::checks::is_sorted(ir_context::decl::make::Make::cx(&*make), trait_ref.args), "candidate_eval::objects::required::requirements: `trait_ref.args` is no number of its sort in this context");
+    debug_assert!(ir_trees::checks::is_sorted(ir_context::decl::make::Make::cx(&*make), trait_ref.args), "candidate_eval::objects::required::requirements: `trait_ref.args` is {:?}, no number of its sort in this context", trait_ref.args);
     make.cx().recall_well_formed_table();
     let of = Declared::SuperClauses(trait_ref.def_id);
     let mut supers = Vec::new(alloc);

@@ -164,7 +164,7 @@ pub fn inputs_and_output_of_fn_def<M: Make>(
     args: Args,
 ) -> Result<Binder<(Ty, Ty)>, NoSolutionOrStop>
 {
-    debug_assert!(ir_trees::checks::is_sorted(ir_context::decl::make::Make::cx(&*make), args), "candidate_eval::structural::callable::inputs_and_output_of_fn_def: `args` is no number of its sort in this context");
+    debug_assert!(ir_trees::checks::is_sorted(ir_context::decl::make::Make::cx(&*make), args), "candidate_eval::structural::callable::inputs_and_output_of_fn_def: `args` is {:?}, no number of its sort in this context", args);
     match function_signature(make.cx(), function, args) {
         Some(sig) => Ok(instance(alloc, make, sig, args)?),
         None => Err(NoSolutionOrStop::NoSolution),
@@ -227,7 +227,7 @@ pub fn extract_tupled_inputs_and_output_from_callable<M: Make>(
     goal_kind: ClosureKind,
 ) -> Result<Option<Binder<(Ty, Ty)>>, NoSolutionOrStop>
 {
-    debug_assert!(ir_trees::checks::is_sorted(ir_context::decl::make::Make::cx(&*make), self_ty), "candidate_eval::structural::callable::extract_tupled_inputs_and_output_from_callable: `self_ty` is no number of its sort in this context");
+    debug_assert!(ir_trees::checks::is_sorted(ir_context::decl::make::Make::cx(&*make), self_ty), "candidate_eval::structural::callable::extract_tupled_inputs_and_output_from_callable: `self_ty` is {:?}, no number of its sort in this context", self_ty);
     match how_called(make.cx(), self_ty) {
         Called::Function(function, args) => {
             let signature = inputs_and_output_of_fn_def(alloc, make, function, args)?;
@@ -291,7 +291,7 @@ pub fn extract_fn_def_from_const_callable<M: Make>(
     self_ty: Ty,
 ) -> Result<(Binder<(Ty, Ty)>, CallableId, Args), NoSolutionOrStop>
 {
-    debug_assert!(ir_trees::checks::is_sorted(ir_context::decl::make::Make::cx(&*make), self_ty), "candidate_eval::structural::callable::extract_fn_def_from_const_callable: `self_ty` is no number of its sort in this context");
+    debug_assert!(ir_trees::checks::is_sorted(ir_context::decl::make::Make::cx(&*make), self_ty), "candidate_eval::structural::callable::extract_fn_def_from_const_callable: `self_ty` is {:?}, no number of its sort in this context", self_ty);
     match how_called(make.cx(), self_ty) {
         Called::Function(function, args) => {
             let signature = const_fn_def(alloc, make, function, args)?;
@@ -309,6 +309,6 @@ pub fn extract_fn_def_from_const_callable<M: Make>(
 /// `extract_tupled_inputs_and_output_from_callable` and `extract_fn_def_from_const_callable` take.
 pub fn has_callable_cell(cx: &Cx, ty: Ty) -> bool
 {
-    debug_assert!(ir_trees::checks::is_sorted(&*cx, ty), "candidate_eval::structural::callable::has_callable_cell: `ty` is no number of its sort in this context");
+    debug_assert!(ir_trees::checks::is_sorted(&*cx, ty), "candidate_eval::structural::callable::has_callable_cell: `ty` is {:?}, no number of its sort in this context", ty);
     is_no_unknown(cx.kind(ty))
 }

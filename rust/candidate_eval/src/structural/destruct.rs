@@ -139,7 +139,7 @@ pub fn const_conditions_for_destruct<M: Make>(
     ty: Ty,
 ) -> Result<Vec<TraitRef>, NoSolutionOrStop>
 {
-    debug_assert!(ir_trees::checks::is_sorted(ir_context::decl::make::Make::cx(&*make), ty), "candidate_eval::structural::destruct::const_conditions_for_destruct: `ty` is no number of its sort in this context");
+    debug_assert!(ir_trees::checks::is_sorted(ir_context::decl::make::Make::cx(&*make), ty), "candidate_eval::structural::destruct::const_conditions_for_destruct: `ty` is {:?}, no number of its sort in this context", ty);
     let asked = cell(make.cx(), Column::Destruct, ty);
     let own = own_condition(make.cx(), ty);
     let of = match make.cx().lang_item(LangItem::Destruct) {

@@ -50,7 +50,7 @@ pub fn constituents<M: Make>(
     ty: Ty,
 ) -> Result<Constituents, NoSolutionOrStop>
 {
-    debug_assert!(ir_trees::checks::is_sorted(ir_context::decl::make::Make::cx(&*make), ty), "candidate_eval::structural::tables::constituents: `ty` is no number of its sort in this context");
+    debug_assert!(ir_trees::checks::is_sorted(ir_context::decl::make::Make::cx(&*make), ty), "candidate_eval::structural::tables::constituents: `ty` is {:?}, no number of its sort in this context", ty);
     let asked = cell(make.cx(), column, ty);
     if is_refused(asked) {
         return Err(NoSolutionOrStop::NoSolution);
@@ -74,7 +74,7 @@ pub fn instantiate_constituent_tys_for_auto_trait<M: Make>(
     ty: Ty,
 ) -> Result<Constituents, NoSolutionOrStop>
 {
-    debug_assert!(ir_trees::checks::is_sorted(ir_context::decl::make::Make::cx(&*make), ty), "candidate_eval::structural::tables::instantiate_constituent_tys_for_auto_trait: `ty` is no number of its sort in this context");
+    debug_assert!(ir_trees::checks::is_sorted(ir_context::decl::make::Make::cx(&*make), ty), "candidate_eval::structural::tables::instantiate_constituent_tys_for_auto_trait: `ty` is {:?}, no number of its sort in this context", ty);
     constituents(alloc, make, Column::Auto, ty)
 }
 
@@ -91,7 +91,7 @@ pub fn instantiate_constituent_tys_for_sizedness_trait<M: Make>(
     ty: Ty,
 ) -> Result<Constituents, NoSolutionOrStop>
 {
-    debug_assert!(ir_trees::checks::is_sorted(ir_context::decl::make::Make::cx(&*make), ty), "candidate_eval::structural::tables::instantiate_constituent_tys_for_sizedness_trait: `ty` is no number of its sort in this context");
+    debug_assert!(ir_trees::checks::is_sorted(ir_context::decl::make::Make::cx(&*make), ty), "candidate_eval::structural::tables::instantiate_constituent_tys_for_sizedness_trait: `ty` is {:?}, no number of its sort in this context", ty);
     constituents(alloc, make, Column::Sizedness(sizedness), ty)
 }
 
@@ -106,7 +106,7 @@ pub fn instantiate_constituent_tys_for_copy_clone_trait<M: Make>(
     ty: Ty,
 ) -> Result<Constituents, NoSolutionOrStop>
 {
-    debug_assert!(ir_trees::checks::is_sorted(ir_context::decl::make::Make::cx(&*make), ty), "candidate_eval::structural::tables::instantiate_constituent_tys_for_copy_clone_trait: `ty` is no number of its sort in this context");
+    debug_assert!(ir_trees::checks::is_sorted(ir_context::decl::make::Make::cx(&*make), ty), "candidate_eval::structural::tables::instantiate_constituent_tys_for_copy_clone_trait: `ty` is {:?}, no number of its sort in this context", ty);
     constituents(alloc, make, Column::CopyClone, ty)
 }
 
@@ -132,7 +132,7 @@ pub(crate) fn is_no_unknown(kind: TyKind) -> bool
 /// `instantiate_constituent_tys_for_auto_trait` and its like, or `const_conditions_for_destruct`.
 pub fn has_cell(cx: &Cx, column: Column, ty: Ty) -> bool
 {
-    debug_assert!(ir_trees::checks::is_sorted(&*cx, ty), "candidate_eval::structural::tables::has_cell: `ty` is no number of its sort in this context");
+    debug_assert!(ir_trees::checks::is_sorted(&*cx, ty), "candidate_eval::structural::tables::has_cell: `ty` is {:?}, no number of its sort in this context", ty);
     let kind = cx.kind(ty);
     match column {
         Column::Auto => has_auto_trait_kind(kind),

@@ -294,8 +294,8 @@ impl Rounds {
         predicate: TraitPredicate,
     ) -> Result<Vec<Candidate>, Stop>
     {
-        debug_assert!(ir_trees::checks::is_sorted(ir_context::decl::make::Make::cx(&*self), param_env), "candidate_rounds::rounds::derivation::Rounds::candidates: `param_env` is no number of its sort in this context");
-        debug_assert!(ir_trees::checks::is_sorted(ir_context::decl::make::Make::cx(&*self), predicate.trait_ref.args), "candidate_rounds::rounds::derivation::Rounds::candidates: `predicate.trait_ref.args` is no number of its sort in this context");
+        debug_assert!(ir_trees::checks::is_sorted(ir_context::decl::make::Make::cx(&*self), param_env), "candidate_rounds::rounds::derivation::Rounds::candidates: `param_env` is {:?}, no number of its sort in this context", param_env);
+        debug_assert!(ir_trees::checks::is_sorted(ir_context::decl::make::Make::cx(&*self), predicate.trait_ref.args), "candidate_rounds::rounds::derivation::Rounds::candidates: `predicate.trait_ref.args` is {:?}, no number of its sort in this context", predicate.trait_ref.args);
         self.recall_well_kept();
         let key = self.key_for(alloc, param_env, predicate)?;
         self.candidates_for(alloc, &key)
@@ -601,8 +601,8 @@ impl Rounds {
         predicate: TraitPredicate,
     ) -> Result<Option<DerivationTree>, Stop>
     {
-        debug_assert!(ir_trees::checks::is_sorted(ir_context::decl::make::Make::cx(&*self), param_env), "candidate_rounds::rounds::derivation::Rounds::derivation: `param_env` is no number of its sort in this context");
-        debug_assert!(ir_trees::checks::is_sorted(ir_context::decl::make::Make::cx(&*self), predicate.trait_ref.args), "candidate_rounds::rounds::derivation::Rounds::derivation: `predicate.trait_ref.args` is no number of its sort in this context");
+        debug_assert!(ir_trees::checks::is_sorted(ir_context::decl::make::Make::cx(&*self), param_env), "candidate_rounds::rounds::derivation::Rounds::derivation: `param_env` is {:?}, no number of its sort in this context", param_env);
+        debug_assert!(ir_trees::checks::is_sorted(ir_context::decl::make::Make::cx(&*self), predicate.trait_ref.args), "candidate_rounds::rounds::derivation::Rounds::derivation: `predicate.trait_ref.args` is {:?}, no number of its sort in this context", predicate.trait_ref.args);
         self.recall_well_kept();
         let key = self.key_for(alloc, param_env, predicate)?;
         let Some(place) = self.place_of(&key) else {

@@ -22,8 +22,8 @@ fn is_fixed(cx: &Cx, ty: Ty) -> bool
 /// error or a placeholder of a universe above the root's, and the type has no alias. By an error every trait would hold of the type.
 pub fn may_be_listed(cx: &Cx, alias: Ty, ty: Ty) -> bool
 {
-    debug_assert!(ir_trees::checks::is_sorted(&*cx, alias), "candidate_rounds::rounds::given::may_be_listed: `alias` is no number of its sort in this context");
-    debug_assert!(ir_trees::checks::is_sorted(&*cx, ty), "candidate_rounds::rounds::given::may_be_listed: `ty` is no number of its sort in this context");
+    debug_assert!(ir_trees::checks::is_sorted(&*cx, alias), "candidate_rounds::rounds::given::may_be_listed: `alias` is {:?}, no number of its sort in this context", alias);
+    debug_assert!(ir_trees::checks::is_sorted(&*cx, ty), "candidate_rounds::rounds::given::may_be_listed: `ty` is {:?}, no number of its sort in this context", ty);
     is_fixed(cx, alias)
         && (is_fixed(cx, ty) && (!cx.has(ty, Flag::Alias) && is_alias(cx, GenericArg::Ty(alias))))
 }
@@ -32,7 +32,7 @@ pub fn may_be_listed(cx: &Cx, alias: Ty, ty: Ty) -> bool
 /// variable and no parameter.
 pub fn may_be_hidden(cx: &Cx, opaque: AliasTy) -> bool
 {
-    debug_assert!(ir_trees::checks::is_sorted(&*cx, opaque.args), "candidate_rounds::rounds::given::may_be_hidden: `opaque.args` is no number of its sort in this context");
+    debug_assert!(ir_trees::checks::is_sorted(&*cx, opaque.args), "candidate_rounds::rounds::given::may_be_hidden: `opaque.args` is {:?}, no number of its sort in this context", opaque.args);
     match opaque.kind {
         AliasKind::Opaque => {
             !cx.has_escaping_bound_vars(opaque.args)

@@ -55,7 +55,7 @@ pub fn trait_predicate(cx: &Cx, alias: AliasTy) -> TraitPredicate
 /// has more children than can be counted.
 pub fn canonical_args(alloc: Global, cx: &mut Cx, args: Args) -> Result<Args, Stop>
 {
-    debug_assert!(ir_trees::checks::is_sorted(&*cx, args), "candidate_rounds::rounds::normalizing::canonical_args: `args` is no number of its sort in this context");
+    debug_assert!(ir_trees::checks::is_sorted(&*cx, args), "candidate_rounds::rounds::normalizing::canonical_args: `args` is {:?}, no number of its sort in this context", args);
     let numbers = numbers_of(alloc, cx, args, &[])?;
     numbered_args(alloc, cx, numbers.as_slice(), args)
 }
@@ -152,7 +152,7 @@ impl Rounds {
     /// nothing else is changed: the new numbers are those of no variable that is known of. It stops as the function `canonical_args` does.
     pub fn canonical_args(&mut self, alloc: Global, args: Args) -> Result<Args, Stop>
     {
-        debug_assert!(ir_trees::checks::is_sorted(ir_context::decl::make::Make::cx(&*self), args), "candidate_rounds::rounds::normalizing::Rounds::canonical_args: `args` is no number of its sort in this context");
+        debug_assert!(ir_trees::checks::is_sorted(ir_context::decl::make::Make::cx(&*self), args), "candidate_rounds::rounds::normalizing::Rounds::canonical_args: `args` is {:?}, no number of its sort in this context", args);
         self.recall_well_kept();
         self.number_args(alloc, args)
     }

@@ -387,8 +387,8 @@ impl Rounds {
         rounds: u16,
     ) -> Result<Verdict, Stop>
     {
-        debug_assert!(ir_trees::checks::is_sorted(ir_context::decl::make::Make::cx(&*self), param_env), "candidate_rounds::rounds::running::Rounds::run: `param_env` is no number of its sort in this context");
-        debug_assert!(ir_trees::checks::is_sorted(ir_context::decl::make::Make::cx(&*self), predicate.trait_ref.args), "candidate_rounds::rounds::running::Rounds::run: `predicate.trait_ref.args` is no number of its sort in this context");
+        debug_assert!(ir_trees::checks::is_sorted(ir_context::decl::make::Make::cx(&*self), param_env), "candidate_rounds::rounds::running::Rounds::run: `param_env` is {:?}, no number of its sort in this context", param_env);
+        debug_assert!(ir_trees::checks::is_sorted(ir_context::decl::make::Make::cx(&*self), predicate.trait_ref.args), "candidate_rounds::rounds::running::Rounds::run: `predicate.trait_ref.args` is {:?}, no number of its sort in this context", predicate.trait_ref.args);
         self.recall_well_kept();
         self.set_asking(false);
         let place = self.enter_goal(alloc, param_env, predicate)?;
@@ -408,8 +408,8 @@ impl Rounds {
         predicate: TraitPredicate,
     ) -> Result<bool, Stop>
     {
-        debug_assert!(ir_trees::checks::is_sorted(ir_context::decl::make::Make::cx(&*self), param_env), "candidate_rounds::rounds::running::Rounds::may_be_run: `param_env` is no number of its sort in this context");
-        debug_assert!(ir_trees::checks::is_sorted(ir_context::decl::make::Make::cx(&*self), predicate.trait_ref.args), "candidate_rounds::rounds::running::Rounds::may_be_run: `predicate.trait_ref.args` is no number of its sort in this context");
+        debug_assert!(ir_trees::checks::is_sorted(ir_context::decl::make::Make::cx(&*self), param_env), "candidate_rounds::rounds::running::Rounds::may_be_run: `param_env` is {:?}, no number of its sort in this context", param_env);
+        debug_assert!(ir_trees::checks::is_sorted(ir_context::decl::make::Make::cx(&*self), predicate.trait_ref.args), "candidate_rounds::rounds::running::Rounds::may_be_run: `predicate.trait_ref.args` is {:?}, no number of its sort in this context", predicate.trait_ref.args);
         self.recall_well_kept();
         let key = self.key_for(alloc, param_env, predicate)?;
         self.may_be_asked(alloc, &key)
@@ -431,8 +431,8 @@ impl Rounds {
         predicate: TraitPredicate,
     ) -> Result<Option<Verdict>, Stop>
     {
-        debug_assert!(ir_trees::checks::is_sorted(ir_context::decl::make::Make::cx(&*self), param_env), "candidate_rounds::rounds::running::Rounds::entry: `param_env` is no number of its sort in this context");
-        debug_assert!(ir_trees::checks::is_sorted(ir_context::decl::make::Make::cx(&*self), predicate.trait_ref.args), "candidate_rounds::rounds::running::Rounds::entry: `predicate.trait_ref.args` is no number of its sort in this context");
+        debug_assert!(ir_trees::checks::is_sorted(ir_context::decl::make::Make::cx(&*self), param_env), "candidate_rounds::rounds::running::Rounds::entry: `param_env` is {:?}, no number of its sort in this context", param_env);
+        debug_assert!(ir_trees::checks::is_sorted(ir_context::decl::make::Make::cx(&*self), predicate.trait_ref.args), "candidate_rounds::rounds::running::Rounds::entry: `predicate.trait_ref.args` is {:?}, no number of its sort in this context", predicate.trait_ref.args);
         self.recall_well_kept();
         let key = self.key_for(alloc, param_env, predicate)?;
         match self.place_of(&key) {

@@ -73,8 +73,8 @@ impl Rounds {
     /// values are put in (`resolve_args_if_possible`, `resolve_clause_if_possible`).
     pub fn stands_here(&self, alloc: Global, param_env: ParamEnv, predicate: TraitPredicate) -> bool
     {
-        debug_assert!(ir_trees::checks::is_sorted(ir_context::decl::make::Make::cx(&*self), param_env), "candidate_rounds::rounds::standing::Rounds::stands_here: `param_env` is no number of its sort in this context");
-        debug_assert!(ir_trees::checks::is_sorted(ir_context::decl::make::Make::cx(&*self), predicate.trait_ref.args), "candidate_rounds::rounds::standing::Rounds::stands_here: `predicate.trait_ref.args` is no number of its sort in this context");
+        debug_assert!(ir_trees::checks::is_sorted(ir_context::decl::make::Make::cx(&*self), param_env), "candidate_rounds::rounds::standing::Rounds::stands_here: `param_env` is {:?}, no number of its sort in this context", param_env);
+        debug_assert!(ir_trees::checks::is_sorted(ir_context::decl::make::Make::cx(&*self), predicate.trait_ref.args), "candidate_rounds::rounds::standing::Rounds::stands_here: `predicate.trait_ref.args` is {:?}, no number of its sort in this context", predicate.trait_ref.args);
         self.recall_well_kept();
         if !self.cx.trait_ref_args_fit(predicate.trait_ref) {
             return false;
@@ -90,8 +90,8 @@ impl Rounds {
     /// definition takes isn't looked at; else it is a no where `stands_here` has one.
     pub fn list_stands_here(&self, alloc: Global, param_env: ParamEnv, list: Args) -> bool
     {
-        debug_assert!(ir_trees::checks::is_sorted(ir_context::decl::make::Make::cx(&*self), param_env), "candidate_rounds::rounds::standing::Rounds::list_stands_here: `param_env` is no number of its sort in this context");
-        debug_assert!(ir_trees::checks::is_sorted(ir_context::decl::make::Make::cx(&*self), list), "candidate_rounds::rounds::standing::Rounds::list_stands_here: `list` is no number of its sort in this context");
+        debug_assert!(ir_trees::checks::is_sorted(ir_context::decl::make::Make::cx(&*self), param_env), "candidate_rounds::rounds::standing::Rounds::list_stands_here: `param_env` is {:?}, no number of its sort in this context", param_env);
+        debug_assert!(ir_trees::checks::is_sorted(ir_context::decl::make::Make::cx(&*self), list), "candidate_rounds::rounds::standing::Rounds::list_stands_here: `list` is {:?}, no number of its sort in this context", list);
         self.recall_well_kept();
         let strange = OutOfScope {
             inference: &self.inference,

@@ -57,8 +57,8 @@ pub fn has_blanket_impl(cx: &Cx, trait_id: TraitId) -> Result<bool, Stop>
 /// The signature of a closure, under a binder without variables. The inputs are one tuple type.
 pub fn closure_sig(cx: &mut Cx, inputs: Ty, output: Ty) -> Result<Sig, Stop>
 {
-    debug_assert!(ir_trees::checks::is_sorted(&*cx, inputs), "examples::calls::contexts::closure_sig: `inputs` is no number of its sort in this context");
-    debug_assert!(ir_trees::checks::is_sorted(&*cx, output), "examples::calls::contexts::closure_sig: `output` is no number of its sort in this context");
+    debug_assert!(ir_trees::checks::is_sorted(&*cx, inputs), "examples::calls::contexts::closure_sig: `inputs` is {:?}, no number of its sort in this context", inputs);
+    debug_assert!(ir_trees::checks::is_sorted(&*cx, output), "examples::calls::contexts::closure_sig: `output` is {:?}, no number of its sort in this context", output);
     let vars = cx.mk_vars(&[])?;
     let value = ClosureSig { inputs, output };
     cx.mk_sig(Binder { vars, value })
@@ -82,7 +82,7 @@ fn byte_for(cx: &mut Cx, arg: GenericArg) -> Result<Option<GenericArg>, Stop>
 /// The type with `u8` in the place of each type parameter.
 pub fn with_bytes(alloc: Global, cx: &mut Cx, ty: Ty) -> Result<Ty, Stop>
 {
-    debug_assert!(ir_trees::checks::is_sorted(&*cx, ty), "examples::calls::contexts::with_bytes: `ty` is no number of its sort in this context");
+    debug_assert!(ir_trees::checks::is_sorted(&*cx, ty), "examples::calls::contexts::with_bytes: `ty` is {:?}, no number of its sort in this context", ty);
     let ask = |cx: &mut Cx, arg: GenericArg, _: u32| -> Result<Option<GenericArg>, Stop>
     { byte_for(cx, arg) };
     fold(alloc, cx, ty, ask)
@@ -92,8 +92,8 @@ pub fn with_bytes(alloc: Global, cx: &mut Cx, ty: Ty) -> Result<Ty, Stop>
 /// the others.
 pub fn opened_with(alloc: Global, cx: &mut Cx, clause: Clause, ty: Ty) -> Result<Clause, Stop>
 {
-    debug_assert!(ir_trees::checks::is_sorted(&*cx, clause), "examples::calls::contexts::opened_with: `clause` is no number of its sort in this context");
-    debug_assert!(ir_trees::checks::is_sorted(&*cx, ty), "examples::calls::contexts::opened_with: `ty` is no number of its sort in this context");
+    debug_assert!(ir_trees::checks::is_sorted(&*cx, clause), "examples::calls::contexts::opened_with: `clause` is {:?}, no number of its sort in this context", clause);
+    debug_assert!(ir_trees::checks::is_sorted(&*cx, ty), "examples::calls::contexts::opened_with: `ty` is {:?}, no number of its sort in this context", ty);
     let values = cx.mk_args(&[GenericArg::Ty(ty)])?;
     open_clause(alloc, cx, clause, values)
 }
@@ -107,8 +107,8 @@ pub fn implied_of(
     clause: Clause,
 ) -> Result<Option<Clause>, Stop>
 {
-    debug_assert!(ir_trees::checks::is_sorted(&*cx, args), "examples::calls::contexts::implied_of: `args` is no number of its sort in this context");
-    debug_assert!(ir_trees::checks::is_sorted(&*cx, clause), "examples::calls::contexts::implied_of: `clause` is no number of its sort in this context");
+    debug_assert!(ir_trees::checks::is_sorted(&*cx, args), "examples::calls::contexts::implied_of: `args` is {:?}, no number of its sort in this context", args);
+    debug_assert!(ir_trees::checks::is_sorted(&*cx, clause), "examples::calls::contexts::implied_of: `clause` is {:?}, no number of its sort in this context", clause);
     if !has_arguments(cx, clause, args) {
         return Ok(None);
     }
@@ -118,14 +118,14 @@ pub fn implied_of(
 /// The supertraits of the clause, which is the first of them.
 pub fn supertraits_of(alloc: Global, cx: &mut Cx, clause: Clause) -> Result<Vec<Clause>, Stop>
 {
-    debug_assert!(ir_trees::checks::is_sorted(&*cx, clause), "examples::calls::contexts::supertraits_of: `clause` is no number of its sort in this context");
+    debug_assert!(ir_trees::checks::is_sorted(&*cx, clause), "examples::calls::contexts::supertraits_of: `clause` is {:?}, no number of its sort in this context", clause);
     supertraits(alloc, cx, clause)
 }
 
 /// The traits of the clause's supertraits, each once.
 pub fn supertrait_ids(alloc: Global, cx: &mut Cx, clause: Clause) -> Result<Vec<TraitId>, Stop>
 {
-    debug_assert!(ir_trees::checks::is_sorted(&*cx, clause), "examples::calls::contexts::supertrait_ids: `clause` is no number of its sort in this context");
+    debug_assert!(ir_trees::checks::is_sorted(&*cx, clause), "examples::calls::contexts::supertrait_ids: `clause` is {:?}, no number of its sort in this context", clause);
     supertrait_def_ids(alloc, cx, clause)
 }
 
@@ -136,7 +136,7 @@ pub fn auto_constituents(
     ty: Ty,
 ) -> Result<Option<Constituents>, NoSolutionOrStop>
 {
-    debug_assert!(ir_trees::checks::is_sorted(&*cx, ty), "examples::calls::contexts::auto_constituents: `ty` is no number of its sort in this context");
+    debug_assert!(ir_trees::checks::is_sorted(&*cx, ty), "examples::calls::contexts::auto_constituents: `ty` is {:?}, no number of its sort in this context", ty);
     if !has_cell(cx, Column::Auto, ty) {
         return Ok(None);
     }
@@ -151,7 +151,7 @@ pub fn destruct_conditions(
     ty: Ty,
 ) -> Result<Option<Vec<TraitRef>>, NoSolutionOrStop>
 {
-    debug_assert!(ir_trees::checks::is_sorted(&*cx, ty), "examples::calls::contexts::destruct_conditions: `ty` is no number of its sort in this context");
+    debug_assert!(ir_trees::checks::is_sorted(&*cx, ty), "examples::calls::contexts::destruct_conditions: `ty` is {:?}, no number of its sort in this context", ty);
     if !has_cell(cx, Column::Destruct, ty) {
         return Ok(None);
     }
@@ -166,7 +166,7 @@ pub fn const_callable(
     ty: Ty,
 ) -> Result<Option<(CallableId, Args)>, NoSolutionOrStop>
 {
-    debug_assert!(ir_trees::checks::is_sorted(&*cx, ty), "examples::calls::contexts::const_callable: `ty` is no number of its sort in this context");
+    debug_assert!(ir_trees::checks::is_sorted(&*cx, ty), "examples::calls::contexts::const_callable: `ty` is {:?}, no number of its sort in this context", ty);
     if !has_callable_cell(cx, ty) {
         return Ok(None);
     }
@@ -182,14 +182,14 @@ pub fn object_requirements(
     args: Args,
 ) -> Result<Vec<Clause>, Stop>
 {
-    debug_assert!(ir_trees::checks::is_sorted(&*cx, args), "examples::calls::contexts::object_requirements: `args` is no number of its sort in this context");
+    debug_assert!(ir_trees::checks::is_sorted(&*cx, args), "examples::calls::contexts::object_requirements: `args` is {:?}, no number of its sort in this context", args);
     requirements(alloc, cx, TraitRef { def_id, args })
 }
 
 /// A clause for each projection bound of an object's type. `None` for any other type.
 pub fn object_bounds(alloc: Global, cx: &mut Cx, ty: Ty) -> Result<Option<Vec<Clause>>, Stop>
 {
-    debug_assert!(ir_trees::checks::is_sorted(&*cx, ty), "examples::calls::contexts::object_bounds: `ty` is no number of its sort in this context");
+    debug_assert!(ir_trees::checks::is_sorted(&*cx, ty), "examples::calls::contexts::object_bounds: `ty` is {:?}, no number of its sort in this context", ty);
     let TyKind::Dynamic(bounds, _) = cx.kind(ty) else {
         return Ok(None);
     };
@@ -220,8 +220,8 @@ pub fn merged_pair(
     second: Args,
 ) -> Result<Option<(CanonicalResponse, MergeCandidateInfo)>, Stop>
 {
-    debug_assert!(ir_trees::checks::is_sorted(&*cx, first), "examples::calls::contexts::merged_pair: `first` is no number of its sort in this context");
-    debug_assert!(ir_trees::checks::is_sorted(&*cx, second), "examples::calls::contexts::merged_pair: `second` is no number of its sort in this context");
+    debug_assert!(ir_trees::checks::is_sorted(&*cx, first), "examples::calls::contexts::merged_pair: `first` is {:?}, no number of its sort in this context", first);
+    debug_assert!(ir_trees::checks::is_sorted(&*cx, second), "examples::calls::contexts::merged_pair: `second` is {:?}, no number of its sort in this context", second);
     let candidates = [sure_candidate(alloc, first), sure_candidate(alloc, second)];
     try_merge_candidates(cx, &candidates)
 }

@@ -41,7 +41,7 @@ pub fn ambiguous_among<E: EvalCtxt>(
 /// The type with a placeholder in the place of the only variable of a binder around it.
 pub fn entered_type<E: EvalCtxt>(alloc: Global, ecx: &mut E, value: Ty) -> Result<Ty, Stop>
 {
-    debug_assert!(ir_trees::checks::is_sorted(ir_context::decl::make::Make::cx(&*ecx), value), "examples::calls::evaluators::entered_type: `value` is no number of its sort in this context");
+    debug_assert!(ir_trees::checks::is_sorted(ir_context::decl::make::Make::cx(&*ecx), value), "examples::calls::evaluators::entered_type: `value` is {:?}, no number of its sort in this context", value);
     let vars = ecx.mk_vars(&[VarKind::Ty])?;
     enter_binder(alloc, ecx, Binder { vars, value })
 }
@@ -49,7 +49,7 @@ pub fn entered_type<E: EvalCtxt>(alloc: Global, ecx: &mut E, value: Ty) -> Resul
 /// The arguments with a fresh variable in the place of the only variable of a binder around them.
 pub fn instantiated_args<E: EvalCtxt>(alloc: Global, ecx: &mut E, value: Args) -> Result<Args, Stop>
 {
-    debug_assert!(ir_trees::checks::is_sorted(ir_context::decl::make::Make::cx(&*ecx), value), "examples::calls::evaluators::instantiated_args: `value` is no number of its sort in this context");
+    debug_assert!(ir_trees::checks::is_sorted(ir_context::decl::make::Make::cx(&*ecx), value), "examples::calls::evaluators::instantiated_args: `value` is {:?}, no number of its sort in this context", value);
     let vars = ecx.mk_vars(&[VarKind::Ty])?;
     instantiate_binder_with_infer(alloc, ecx, Binder { vars, value })
 }
@@ -61,7 +61,7 @@ pub fn entered_clause<E: EvalCtxt>(
     clause: Clause,
 ) -> Result<Clause, Stop>
 {
-    debug_assert!(ir_trees::checks::is_sorted(ir_context::decl::make::Make::cx(&*ecx), clause), "examples::calls::evaluators::entered_clause: `clause` is no number of its sort in this context");
+    debug_assert!(ir_trees::checks::is_sorted(ir_context::decl::make::Make::cx(&*ecx), clause), "examples::calls::evaluators::entered_clause: `clause` is {:?}, no number of its sort in this context", clause);
     enter_clause(alloc, ecx, clause)
 }
 
@@ -72,7 +72,7 @@ pub fn resolved_env<E: EvalCtxt>(
     clause: Clause,
 ) -> Result<ParamEnv, Stop>
 {
-    debug_assert!(ir_trees::checks::is_sorted(ir_context::decl::make::Make::cx(&*ecx), clause), "examples::calls::evaluators::resolved_env: `clause` is no number of its sort in this context");
+    debug_assert!(ir_trees::checks::is_sorted(ir_context::decl::make::Make::cx(&*ecx), clause), "examples::calls::evaluators::resolved_env: `clause` is {:?}, no number of its sort in this context", clause);
     let env = ecx.mk_param_env(&[clause])?;
     resolve_env_if_possible(alloc, ecx, env)
 }
@@ -80,7 +80,7 @@ pub fn resolved_env<E: EvalCtxt>(
 /// The type in normal form, in an empty environment.
 pub fn normal_type<E: EvalCtxt>(ecx: &mut E, ty: Ty) -> Result<Ty, NoSolutionOrStop>
 {
-    debug_assert!(ir_trees::checks::is_sorted(ir_context::decl::make::Make::cx(&*ecx), ty), "examples::calls::evaluators::normal_type: `ty` is no number of its sort in this context");
+    debug_assert!(ir_trees::checks::is_sorted(ir_context::decl::make::Make::cx(&*ecx), ty), "examples::calls::evaluators::normal_type: `ty` is {:?}, no number of its sort in this context", ty);
     let env = ecx.mk_param_env(&[])?;
     ecx.structurally_normalize_ty(env, ty)
 }
@@ -99,9 +99,9 @@ pub fn goals_of_equation<E: EvalCtxt>(
     right: Ty,
 ) -> Result<Vec<(GoalSource, Goal<Clause>)>, NoSolutionOrStop>
 {
-    debug_assert!(ir_trees::checks::is_sorted(ir_context::decl::make::Make::cx(&*ecx), env), "examples::calls::evaluators::goals_of_equation: `env` is no number of its sort in this context");
-    debug_assert!(ir_trees::checks::is_sorted(ir_context::decl::make::Make::cx(&*ecx), left), "examples::calls::evaluators::goals_of_equation: `left` is no number of its sort in this context");
-    debug_assert!(ir_trees::checks::is_sorted(ir_context::decl::make::Make::cx(&*ecx), right), "examples::calls::evaluators::goals_of_equation: `right` is no number of its sort in this context");
+    debug_assert!(ir_trees::checks::is_sorted(ir_context::decl::make::Make::cx(&*ecx), env), "examples::calls::evaluators::goals_of_equation: `env` is {:?}, no number of its sort in this context", env);
+    debug_assert!(ir_trees::checks::is_sorted(ir_context::decl::make::Make::cx(&*ecx), left), "examples::calls::evaluators::goals_of_equation: `left` is {:?}, no number of its sort in this context", left);
+    debug_assert!(ir_trees::checks::is_sorted(ir_context::decl::make::Make::cx(&*ecx), right), "examples::calls::evaluators::goals_of_equation: `right` is {:?}, no number of its sort in this context", right);
     ecx.eq_and_get_goals(env, GenericArg::Ty(left), GenericArg::Ty(right))
 }
 
@@ -113,9 +113,9 @@ pub fn ask_both<E: EvalCtxt>(
     second: Clause,
 ) -> Result<(), Stop>
 {
-    debug_assert!(ir_trees::checks::is_sorted(ir_context::decl::make::Make::cx(&*ecx), param_env), "examples::calls::evaluators::ask_both: `param_env` is no number of its sort in this context");
-    debug_assert!(ir_trees::checks::is_sorted(ir_context::decl::make::Make::cx(&*ecx), first), "examples::calls::evaluators::ask_both: `first` is no number of its sort in this context");
-    debug_assert!(ir_trees::checks::is_sorted(ir_context::decl::make::Make::cx(&*ecx), second), "examples::calls::evaluators::ask_both: `second` is no number of its sort in this context");
+    debug_assert!(ir_trees::checks::is_sorted(ir_context::decl::make::Make::cx(&*ecx), param_env), "examples::calls::evaluators::ask_both: `param_env` is {:?}, no number of its sort in this context", param_env);
+    debug_assert!(ir_trees::checks::is_sorted(ir_context::decl::make::Make::cx(&*ecx), first), "examples::calls::evaluators::ask_both: `first` is {:?}, no number of its sort in this context", first);
+    debug_assert!(ir_trees::checks::is_sorted(ir_context::decl::make::Make::cx(&*ecx), second), "examples::calls::evaluators::ask_both: `second` is {:?}, no number of its sort in this context", second);
     let first = Goal {
         param_env,
         predicate: first,
@@ -130,7 +130,7 @@ pub fn ask_both<E: EvalCtxt>(
 /// Whether an opaque type may be hidden behind the type.
 pub fn has_hidden_opaque<E: EvalCtxt>(ecx: &mut E, ty: Ty) -> Result<bool, Stop>
 {
-    debug_assert!(ir_trees::checks::is_sorted(ir_context::decl::make::Make::cx(&*ecx), ty), "examples::calls::evaluators::has_hidden_opaque: `ty` is no number of its sort in this context");
+    debug_assert!(ir_trees::checks::is_sorted(ir_context::decl::make::Make::cx(&*ecx), ty), "examples::calls::evaluators::has_hidden_opaque: `ty` is {:?}, no number of its sort in this context", ty);
     Ok(!ecx.opaques_with_sub_unified_hidden_type(ty)?.is_empty())
 }
 
@@ -143,9 +143,9 @@ pub fn matches_projection<E: EvalCtxt>(
     projection: AliasTerm,
 ) -> Result<bool, Stop>
 {
-    debug_assert!(ir_trees::checks::is_sorted(ir_context::decl::make::Make::cx(&*ecx), env), "examples::calls::evaluators::matches_projection: `env` is no number of its sort in this context");
-    debug_assert!(ir_trees::checks::is_sorted(ir_context::decl::make::Make::cx(&*ecx), clause), "examples::calls::evaluators::matches_projection: `clause` is no number of its sort in this context");
-    debug_assert!(ir_trees::checks::is_sorted(ir_context::decl::make::Make::cx(&*ecx), projection.args), "examples::calls::evaluators::matches_projection: `projection.args` is no number of its sort in this context");
+    debug_assert!(ir_trees::checks::is_sorted(ir_context::decl::make::Make::cx(&*ecx), env), "examples::calls::evaluators::matches_projection: `env` is {:?}, no number of its sort in this context", env);
+    debug_assert!(ir_trees::checks::is_sorted(ir_context::decl::make::Make::cx(&*ecx), clause), "examples::calls::evaluators::matches_projection: `clause` is {:?}, no number of its sort in this context", clause);
+    debug_assert!(ir_trees::checks::is_sorted(ir_context::decl::make::Make::cx(&*ecx), projection.args), "examples::calls::evaluators::matches_projection: `projection.args` is {:?}, no number of its sort in this context", projection.args);
     bound_matches(alloc, ecx, env, clause, projection)
 }
 
@@ -157,8 +157,8 @@ pub fn clauses_matching<E: EvalCtxt>(
     projection: AliasTerm,
 ) -> Result<Vec<Clause>, Stop>
 {
-    debug_assert!(ir_trees::checks::is_sorted(ir_context::decl::make::Make::cx(&*ecx), env), "examples::calls::evaluators::clauses_matching: `env` is no number of its sort in this context");
-    debug_assert!(ir_trees::checks::is_sorted(ir_context::decl::make::Make::cx(&*ecx), projection.args), "examples::calls::evaluators::clauses_matching: `projection.args` is no number of its sort in this context");
+    debug_assert!(ir_trees::checks::is_sorted(ir_context::decl::make::Make::cx(&*ecx), env), "examples::calls::evaluators::clauses_matching: `env` is {:?}, no number of its sort in this context", env);
+    debug_assert!(ir_trees::checks::is_sorted(ir_context::decl::make::Make::cx(&*ecx), projection.args), "examples::calls::evaluators::clauses_matching: `projection.args` is {:?}, no number of its sort in this context", projection.args);
     let bounds = Vec::from_slice(alloc, ecx.cx().param_env(env))?;
     matching_bounds(alloc, ecx, env, bounds.as_slice(), projection)
 }

@@ -52,8 +52,8 @@ pub fn is_global<E: EvalCtxt>(
     clause: Clause,
 ) -> Result<bool, NoSolutionOrStop>
 {
-    debug_assert!(ir_trees::checks::is_sorted(ir_context::decl::make::Make::cx(&*ecx), env), "examples::calls::goals::is_global: `env` is no number of its sort in this context");
-    debug_assert!(ir_trees::checks::is_sorted(ir_context::decl::make::Make::cx(&*ecx), clause), "examples::calls::goals::is_global: `clause` is no number of its sort in this context");
+    debug_assert!(ir_trees::checks::is_sorted(ir_context::decl::make::Make::cx(&*ecx), env), "examples::calls::goals::is_global: `env` is {:?}, no number of its sort in this context", env);
+    debug_assert!(ir_trees::checks::is_sorted(ir_context::decl::make::Make::cx(&*ecx), clause), "examples::calls::goals::is_global: `clause` is {:?}, no number of its sort in this context", clause);
     let (source, _) = characterize_param_env_assumption(alloc, ecx, env, clause)?;
     Ok(source == ParamEnvSource::Global)
 }
@@ -65,7 +65,7 @@ pub fn forced_candidate<E: EvalCtxt>(
     env: ParamEnv,
 ) -> Result<Candidate, NoSolutionOrStop>
 {
-    debug_assert!(ir_trees::checks::is_sorted(ir_context::decl::make::Make::cx(&*ecx), env), "examples::calls::goals::forced_candidate: `env` is no number of its sort in this context");
+    debug_assert!(ir_trees::checks::is_sorted(ir_context::decl::make::Make::cx(&*ecx), env), "examples::calls::goals::forced_candidate: `env` is {:?}, no number of its sort in this context", env);
     forced_ambiguity(alloc, ecx, env, MaybeInfo::AMBIGUOUS)
 }
 
@@ -78,8 +78,8 @@ pub fn impl_candidate<E: EvalCtxt>(
     of: ImplId,
 ) -> Result<Option<Candidate>, NoSolutionOrStop>
 {
-    debug_assert!(ir_trees::checks::is_sorted(ir_context::decl::make::Make::cx(&*ecx), env), "examples::calls::goals::impl_candidate: `env` is no number of its sort in this context");
-    debug_assert!(ir_trees::checks::is_sorted(ir_context::decl::make::Make::cx(&*ecx), clause), "examples::calls::goals::impl_candidate: `clause` is no number of its sort in this context");
+    debug_assert!(ir_trees::checks::is_sorted(ir_context::decl::make::Make::cx(&*ecx), env), "examples::calls::goals::impl_candidate: `env` is {:?}, no number of its sort in this context", env);
+    debug_assert!(ir_trees::checks::is_sorted(ir_context::decl::make::Make::cx(&*ecx), clause), "examples::calls::goals::impl_candidate: `clause` is {:?}, no number of its sort in this context", clause);
     let Some(predicate) = goal_of(ecx.cx(), env, clause) else {
         return Ok(None);
     };
@@ -97,9 +97,9 @@ pub fn implied_candidate<E: EvalCtxt>(
     asked: Clause,
 ) -> Result<Option<Candidate>, NoSolutionOrStop>
 {
-    debug_assert!(ir_trees::checks::is_sorted(ir_context::decl::make::Make::cx(&*ecx), env), "examples::calls::goals::implied_candidate: `env` is no number of its sort in this context");
-    debug_assert!(ir_trees::checks::is_sorted(ir_context::decl::make::Make::cx(&*ecx), clause), "examples::calls::goals::implied_candidate: `clause` is no number of its sort in this context");
-    debug_assert!(ir_trees::checks::is_sorted(ir_context::decl::make::Make::cx(&*ecx), asked), "examples::calls::goals::implied_candidate: `asked` is no number of its sort in this context");
+    debug_assert!(ir_trees::checks::is_sorted(ir_context::decl::make::Make::cx(&*ecx), env), "examples::calls::goals::implied_candidate: `env` is {:?}, no number of its sort in this context", env);
+    debug_assert!(ir_trees::checks::is_sorted(ir_context::decl::make::Make::cx(&*ecx), clause), "examples::calls::goals::implied_candidate: `clause` is {:?}, no number of its sort in this context", clause);
+    debug_assert!(ir_trees::checks::is_sorted(ir_context::decl::make::Make::cx(&*ecx), asked), "examples::calls::goals::implied_candidate: `asked` is {:?}, no number of its sort in this context", asked);
     let Some(goal) = goal_of(ecx.cx(), env, asked) else {
         return Ok(None);
     };
@@ -119,8 +119,8 @@ pub fn preferred_response<E: EvalCtxt>(
     predicate: TraitPredicate,
 ) -> Result<(CanonicalResponse, Option<TraitGoalProvenVia>), NoSolutionOrStop>
 {
-    debug_assert!(ir_trees::checks::is_sorted(ir_context::decl::make::Make::cx(&*ecx), env), "examples::calls::goals::preferred_response: `env` is no number of its sort in this context");
-    debug_assert!(ir_trees::checks::is_sorted(ir_context::decl::make::Make::cx(&*ecx), predicate.trait_ref.args), "examples::calls::goals::preferred_response: `predicate.trait_ref.args` is no number of its sort in this context");
+    debug_assert!(ir_trees::checks::is_sorted(ir_context::decl::make::Make::cx(&*ecx), env), "examples::calls::goals::preferred_response: `env` is {:?}, no number of its sort in this context", env);
+    debug_assert!(ir_trees::checks::is_sorted(ir_context::decl::make::Make::cx(&*ecx), predicate.trait_ref.args), "examples::calls::goals::preferred_response: `predicate.trait_ref.args` is {:?}, no number of its sort in this context", predicate.trait_ref.args);
     let from = AssembleCandidatesFrom::All;
     let (candidates, failed) = assemble_and_evaluate_candidates(alloc, ecx, env, predicate, from)?;
     let mode = CandidatePreferenceMode::compute(ecx.cx(), predicate.trait_ref.def_id);
@@ -136,9 +136,9 @@ pub fn normalized<E: EvalCtxt>(
     goal: NormalizesTo,
 ) -> Result<Option<CanonicalResponse>, NoSolutionOrStop>
 {
-    debug_assert!(ir_trees::checks::is_sorted(ir_context::decl::make::Make::cx(&*ecx), env), "examples::calls::goals::normalized: `env` is no number of its sort in this context");
-    debug_assert!(ir_trees::checks::is_sorted(ir_context::decl::make::Make::cx(&*ecx), goal.alias.args), "examples::calls::goals::normalized: `goal.alias.args` is no number of its sort in this context");
-    debug_assert!(ir_trees::checks::is_sorted(ir_context::decl::make::Make::cx(&*ecx), goal.term), "examples::calls::goals::normalized: `goal.term` is no number of its sort in this context");
+    debug_assert!(ir_trees::checks::is_sorted(ir_context::decl::make::Make::cx(&*ecx), env), "examples::calls::goals::normalized: `env` is {:?}, no number of its sort in this context", env);
+    debug_assert!(ir_trees::checks::is_sorted(ir_context::decl::make::Make::cx(&*ecx), goal.alias.args), "examples::calls::goals::normalized: `goal.alias.args` is {:?}, no number of its sort in this context", goal.alias.args);
+    debug_assert!(ir_trees::checks::is_sorted(ir_context::decl::make::Make::cx(&*ecx), goal.term), "examples::calls::goals::normalized: `goal.term` is {:?}, no number of its sort in this context", goal.term);
     if !goal.may_be_asked(ecx.cx(), env) {
         return Ok(None);
     }
@@ -154,8 +154,8 @@ pub fn responded(
     predicate: TraitPredicate,
 ) -> Result<Option<CanonicalResponse>, NoSolutionOrStop>
 {
-    debug_assert!(ir_trees::checks::is_sorted(ir_context::decl::make::Make::cx(&*rounds), env), "examples::calls::goals::responded: `env` is no number of its sort in this context");
-    debug_assert!(ir_trees::checks::is_sorted(ir_context::decl::make::Make::cx(&*rounds), predicate.trait_ref.args), "examples::calls::goals::responded: `predicate.trait_ref.args` is no number of its sort in this context");
+    debug_assert!(ir_trees::checks::is_sorted(ir_context::decl::make::Make::cx(&*rounds), env), "examples::calls::goals::responded: `env` is {:?}, no number of its sort in this context", env);
+    debug_assert!(ir_trees::checks::is_sorted(ir_context::decl::make::Make::cx(&*rounds), predicate.trait_ref.args), "examples::calls::goals::responded: `predicate.trait_ref.args` is {:?}, no number of its sort in this context", predicate.trait_ref.args);
     if !rounds.stands_here(alloc, env, predicate) {
         return Ok(None);
     }
@@ -177,8 +177,8 @@ pub fn is_accepted(
     predicate: TraitPredicate,
 ) -> Result<bool, Stop>
 {
-    debug_assert!(ir_trees::checks::is_sorted(ir_context::decl::make::Make::cx(&*rounds), env), "examples::calls::goals::is_accepted: `env` is no number of its sort in this context");
-    debug_assert!(ir_trees::checks::is_sorted(ir_context::decl::make::Make::cx(&*rounds), predicate.trait_ref.args), "examples::calls::goals::is_accepted: `predicate.trait_ref.args` is no number of its sort in this context");
+    debug_assert!(ir_trees::checks::is_sorted(ir_context::decl::make::Make::cx(&*rounds), env), "examples::calls::goals::is_accepted: `env` is {:?}, no number of its sort in this context", env);
+    debug_assert!(ir_trees::checks::is_sorted(ir_context::decl::make::Make::cx(&*rounds), predicate.trait_ref.args), "examples::calls::goals::is_accepted: `predicate.trait_ref.args` is {:?}, no number of its sort in this context", predicate.trait_ref.args);
     if !rounds.stands_here(alloc, env, predicate) {
         return Ok(false);
     }

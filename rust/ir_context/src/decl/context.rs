@@ -191,7 +191,7 @@ impl Cx {
     /// Whether the arguments of a reference are those that its trait takes, the self type first.
     pub fn trait_ref_args_fit(&self, trait_ref: TraitRef) -> bool
     {
-        debug_assert!(ir_trees::checks::is_sorted(&*self, trait_ref.args), "ir_context::decl::context::Cx::trait_ref_args_fit: `trait_ref.args` is no number of its sort in this context");
+        debug_assert!(ir_trees::checks::is_sorted(&*self, trait_ref.args), "ir_context::decl::context::Cx::trait_ref_args_fit: `trait_ref.args` is {:?}, no number of its sort in this context", trait_ref.args);
         takes_after_self(
             self.definitions.as_slice(),
             DefinitionSort::Trait,

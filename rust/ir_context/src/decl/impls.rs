@@ -86,7 +86,7 @@ impl Cx {
         count: &mut UnifyCount,
     ) -> Result<Vec<ImplId>, Stop>
     {
-        debug_assert!(ir_trees::checks::is_sorted(&*self, self_ty), "ir_context::decl::impls::Cx::for_each_relevant_impl: `self_ty` is no number of its sort in this context");
+        debug_assert!(ir_trees::checks::is_sorted(&*self, self_ty), "ir_context::decl::impls::Cx::for_each_relevant_impl: `self_ty` is {:?}, no number of its sort in this context", self_ty);
         match self.head(self_ty.0).sought() {
             Some(class) => {
                 let listed = self.listed_with_open(trait_id, class)?;
@@ -107,7 +107,7 @@ impl Cx {
     /// The rule is that of rustc's simplified types. The only error is `Stop::Memory`, where a growth was refused.
     pub fn for_each_impl_of_head(&self, trait_id: TraitId, self_ty: Ty) -> Result<Vec<ImplId>, Stop>
     {
-        debug_assert!(ir_trees::checks::is_sorted(&*self, self_ty), "ir_context::decl::impls::Cx::for_each_impl_of_head: `self_ty` is no number of its sort in this context");
+        debug_assert!(ir_trees::checks::is_sorted(&*self, self_ty), "ir_context::decl::impls::Cx::for_each_impl_of_head: `self_ty` is {:?}, no number of its sort in this context", self_ty);
         match self.head(self_ty.0).sought() {
             Some(class) => Ok(self.listed_with_open(trait_id, class)?),
             None => {

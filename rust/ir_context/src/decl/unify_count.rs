@@ -34,8 +34,8 @@ impl UnifyCount {
     /// Whether the type may be equal to that of an impl header, by quick rejection.
     pub fn test(&mut self, cx: &Cx, ty: Ty, header: Ty) -> bool
     {
-        debug_assert!(ir_trees::checks::is_sorted(&*cx, ty), "ir_context::decl::unify_count::UnifyCount::test: `ty` is no number of its sort in this context");
-        debug_assert!(ir_trees::checks::is_sorted(&*cx, header), "ir_context::decl::unify_count::UnifyCount::test: `header` is no number of its sort in this context");
+        debug_assert!(ir_trees::checks::is_sorted(&*cx, ty), "ir_context::decl::unify_count::UnifyCount::test: `ty` is {:?}, no number of its sort in this context", ty);
+        debug_assert!(ir_trees::checks::is_sorted(&*cx, header), "ir_context::decl::unify_count::UnifyCount::test: `header` is {:?}, no number of its sort in this context", header);
         *self = UnifyCount::one_more(self);
         cx.may_unify(ty, header, RightSide::Header)
     }

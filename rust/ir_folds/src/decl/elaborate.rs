@@ -154,8 +154,8 @@ pub fn implied<M: Make>(
     clause: Clause,
 ) -> Result<Clause, Stop>
 {
-    debug_assert!(ir_trees::checks::is_sorted(ir_context::decl::make::Make::cx(&*make), args), "ir_folds::decl::elaborate::implied: `args` is no number of its sort in this context");
-    debug_assert!(ir_trees::checks::is_sorted(ir_context::decl::make::Make::cx(&*make), clause), "ir_folds::decl::elaborate::implied: `clause` is no number of its sort in this context");
+    debug_assert!(ir_trees::checks::is_sorted(ir_context::decl::make::Make::cx(&*make), args), "ir_folds::decl::elaborate::implied: `args` is {:?}, no number of its sort in this context", args);
+    debug_assert!(ir_trees::checks::is_sorted(ir_context::decl::make::Make::cx(&*make), clause), "ir_folds::decl::elaborate::implied: `clause` is {:?}, no number of its sort in this context", clause);
     let by = make.cx().vars(vars).len();
     let own = make.cx().clause(clause).vars;
     let joint = joint_vars(alloc, make, vars, own)?;
@@ -293,7 +293,7 @@ pub fn supertraits<M: Make>(
     clause: Clause,
 ) -> Result<Vec<Clause>, Stop>
 {
-    debug_assert!(ir_trees::checks::is_sorted(ir_context::decl::make::Make::cx(&*make), clause), "ir_folds::decl::elaborate::supertraits: `clause` is no number of its sort in this context");
+    debug_assert!(ir_trees::checks::is_sorted(ir_context::decl::make::Make::cx(&*make), clause), "ir_folds::decl::elaborate::supertraits: `clause` is {:?}, no number of its sort in this context", clause);
     let all = elaborate(alloc, make, &[clause])?;
     Ok(trait_clauses(alloc, make.cx(), all.as_slice())?)
 }
@@ -341,7 +341,7 @@ pub fn supertrait_def_ids<M: Make>(
     clause: Clause,
 ) -> Result<Vec<TraitId>, Stop>
 {
-    debug_assert!(ir_trees::checks::is_sorted(ir_context::decl::make::Make::cx(&*make), clause), "ir_folds::decl::elaborate::supertrait_def_ids: `clause` is no number of its sort in this context");
+    debug_assert!(ir_trees::checks::is_sorted(ir_context::decl::make::Make::cx(&*make), clause), "ir_folds::decl::elaborate::supertrait_def_ids: `clause` is {:?}, no number of its sort in this context", clause);
     let list = supertraits(alloc, make, clause)?;
     Ok(traits_of(alloc, make.cx(), list.as_slice())?)
 }

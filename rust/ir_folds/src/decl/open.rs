@@ -194,7 +194,7 @@ pub fn variable_kinds(alloc: Global, cx: &Cx, vars: Vars) -> Result<Vec<VarKind>
 /// The kinds of the variables of a clause's binder.
 pub fn binder_kinds(alloc: Global, cx: &Cx, clause: Clause) -> Result<Vec<VarKind>, AllocError>
 {
-    debug_assert!(ir_trees::checks::is_sorted(&*cx, clause), "ir_folds::decl::open::binder_kinds: `clause` is no number of its sort in this context");
+    debug_assert!(ir_trees::checks::is_sorted(&*cx, clause), "ir_folds::decl::open::binder_kinds: `clause` is {:?}, no number of its sort in this context", clause);
     let mut kinds = Vec::new(alloc);
     add_kinds(cx, &mut kinds, cx.clause(clause).vars)?;
     Ok(kinds)
@@ -224,7 +224,7 @@ pub fn replace_bound_vars<N: Numbered, M: Make>(
     values: Args,
 ) -> Result<N, Stop>
 {
-    debug_assert!(ir_trees::checks::is_sorted(ir_context::decl::make::Make::cx(&*make), values), "ir_folds::decl::open::replace_bound_vars: `values` is no number of its sort in this context");
+    debug_assert!(ir_trees::checks::is_sorted(ir_context::decl::make::Make::cx(&*make), values), "ir_folds::decl::open::replace_bound_vars: `values` is {:?}, no number of its sort in this context", values);
     let whole = under.number();
     if !holds_bound(make.cx(), whole) {
         return Ok(under);
@@ -247,8 +247,8 @@ pub fn open_clause<M: Make>(
     values: Args,
 ) -> Result<Clause, Stop>
 {
-    debug_assert!(ir_trees::checks::is_sorted(ir_context::decl::make::Make::cx(&*make), clause), "ir_folds::decl::open::open_clause: `clause` is no number of its sort in this context");
-    debug_assert!(ir_trees::checks::is_sorted(ir_context::decl::make::Make::cx(&*make), values), "ir_folds::decl::open::open_clause: `values` is no number of its sort in this context");
+    debug_assert!(ir_trees::checks::is_sorted(ir_context::decl::make::Make::cx(&*make), clause), "ir_folds::decl::open::open_clause: `clause` is {:?}, no number of its sort in this context", clause);
+    debug_assert!(ir_trees::checks::is_sorted(ir_context::decl::make::Make::cx(&*make), values), "ir_folds::decl::open::open_clause: `values` is {:?}, no number of its sort in this context", values);
     make.cx().recall_well_formed();
     let opened = opened_below(alloc, make, clause, values)?;
     let vars = make.mk_vars(&[])?;

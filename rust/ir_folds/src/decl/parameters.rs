@@ -55,6 +55,6 @@ fn number_lacks(cx: &Cx, number: u32, args: Args) -> bool
 /// parameter isn't walked; no memory is taken.
 pub fn has_arguments<N: Numbered>(cx: &Cx, of: N, args: Args) -> bool
 {
-    debug_assert!(ir_trees::checks::is_sorted(&*cx, args), "ir_folds::decl::parameters::has_arguments: `args` is no number of its sort in this context");
+    debug_assert!(ir_trees::checks::is_sorted(&*cx, args), "ir_folds::decl::parameters::has_arguments: `args` is {:?}, no number of its sort in this context", args);
     !number_lacks(cx, of.number(), args)
 }

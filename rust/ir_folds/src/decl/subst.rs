@@ -197,7 +197,7 @@ pub fn subst<N: Numbered, M: Make>(
 
     // Laws; those of lists follow from `list` alike.
 {
-    debug_assert!(ir_trees::checks::is_sorted(ir_context::decl::make::Make::cx(&*make), args), "ir_folds::decl::subst::subst: `args` is no number of its sort in this context");
+    debug_assert!(ir_trees::checks::is_sorted(ir_context::decl::make::Make::cx(&*make), args), "ir_folds::decl::subst::subst: `args` is {:?}, no number of its sort in this context", args);
     let number = substituted(alloc, make, value.number(), args)?;
     Ok(value.with_number(number))
 }

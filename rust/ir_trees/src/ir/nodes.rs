@@ -159,6 +159,7 @@ impl Nodes {
     #[inline(always)]
     pub fn make(&mut self, new: New<'_>) -> Result<u32, Stop>
     {
+        debug_assert!(crate::checks::is_made_of(&*self, &new), "ir_trees::ir::nodes::Nodes::make: {new:?} has a number that is none of its sort in this context");
         match new {
             New::Ty(kind) => self.add(Node::Ty(kind)),
             New::Const(kind) => self.add(Node::Const(kind)),

@@ -81,14 +81,14 @@ pub trait Trees: Sized {
     /// numbers in one row.
     fn variable_number(&self, arg: GenericArg) -> Option<u32>
     {
-        debug_assert!(crate::checks::is_sorted(&*self, arg), "ir_trees::ir::trees::Trees::variable_number: `arg` is no number of its sort in this context");
+        debug_assert!(crate::checks::is_sorted(&*self, arg), "ir_trees::ir::trees::Trees::variable_number: `arg` is {:?}, no number of its sort in this context", arg);
         self.head(arg.number()).variable_number()
     }
 
     /// The kind of a type: making it again gives an equal tree.
     fn kind(&self, ty: Ty) -> TyKind
     {
-        debug_assert!(crate::checks::is_sorted(&*self, ty), "ir_trees::ir::trees::Trees::kind: `ty` is no number of its sort in this context");
+        debug_assert!(crate::checks::is_sorted(&*self, ty), "ir_trees::ir::trees::Trees::kind: `ty` is {:?}, no number of its sort in this context", ty);
         match self.node(ty.0) {
             Node::Ty(kind) => *kind,
             _ => unreachable!(),
@@ -98,7 +98,7 @@ pub trait Trees: Sized {
     /// The arguments of a list.
     fn args(&self, args: Args) -> &[GenericArg]
     {
-        debug_assert!(crate::checks::is_sorted(&*self, args), "ir_trees::ir::trees::Trees::args: `args` is no number of its sort in this context");
+        debug_assert!(crate::checks::is_sorted(&*self, args), "ir_trees::ir::trees::Trees::args: `args` is {:?}, no number of its sort in this context", args);
         match self.node(args.0) {
             Node::Args(list) => list.as_slice(),
             _ => unreachable!(),
@@ -126,7 +126,7 @@ pub trait Trees: Sized {
     /// The kind of a constant.
     fn const_kind(&self, constant: Const) -> ConstKind
     {
-        debug_assert!(crate::checks::is_sorted(&*self, constant), "ir_trees::ir::trees::Trees::const_kind: `constant` is no number of its sort in this context");
+        debug_assert!(crate::checks::is_sorted(&*self, constant), "ir_trees::ir::trees::Trees::const_kind: `constant` is {:?}, no number of its sort in this context", constant);
         match self.node(constant.0) {
             Node::Const(kind) => *kind,
             _ => unreachable!(),
@@ -136,7 +136,7 @@ pub trait Trees: Sized {
     /// The kind of a region.
     fn region_kind(&self, region: Region) -> RegionKind
     {
-        debug_assert!(crate::checks::is_sorted(&*self, region), "ir_trees::ir::trees::Trees::region_kind: `region` is no number of its sort in this context");
+        debug_assert!(crate::checks::is_sorted(&*self, region), "ir_trees::ir::trees::Trees::region_kind: `region` is {:?}, no number of its sort in this context", region);
         match self.node(region.0) {
             Node::Region(kind) => *kind,
             _ => unreachable!(),
@@ -155,7 +155,7 @@ pub trait Trees: Sized {
     /// The clause of a number, under its binder.
     fn clause(&self, clause: Clause) -> Binder<ClauseKind>
     {
-        debug_assert!(crate::checks::is_sorted(&*self, clause), "ir_trees::ir::trees::Trees::clause: `clause` is no number of its sort in this context");
+        debug_assert!(crate::checks::is_sorted(&*self, clause), "ir_trees::ir::trees::Trees::clause: `clause` is {:?}, no number of its sort in this context", clause);
         match self.node(clause.0) {
             Node::Clause(clause) => *clause,
             _ => unreachable!(),
@@ -165,7 +165,7 @@ pub trait Trees: Sized {
     /// The clauses of an environment, of which each is read by `clause`.
     fn param_env(&self, env: ParamEnv) -> &[Clause]
     {
-        debug_assert!(crate::checks::is_sorted(&*self, env), "ir_trees::ir::trees::Trees::param_env: `env` is no number of its sort in this context");
+        debug_assert!(crate::checks::is_sorted(&*self, env), "ir_trees::ir::trees::Trees::param_env: `env` is {:?}, no number of its sort in this context", env);
         match self.node(env.0) {
             Node::Clauses(list) => list.as_slice(),
             _ => unreachable!(),
@@ -232,8 +232,8 @@ pub trait Trees: Sized {
     /// of `may_unify` holds here, too.
     fn args_may_unify(&self, a: Args, b: Args, right: RightSide) -> bool
     {
-        debug_assert!(crate::checks::is_sorted(&*self, a), "ir_trees::ir::trees::Trees::args_may_unify: `a` is no number of its sort in this context");
-        debug_assert!(crate::checks::is_sorted(&*self, b), "ir_trees::ir::trees::Trees::args_may_unify: `b` is no number of its sort in this context");
+        debug_assert!(crate::checks::is_sorted(&*self, a), "ir_trees::ir::trees::Trees::args_may_unify: `a` is {:?}, no number of its sort in this context", a);
+        debug_assert!(crate::checks::is_sorted(&*self, b), "ir_trees::ir::trees::Trees::args_may_unify: `b` is {:?}, no number of its sort in this context", b);
         numbers_may_unify(self, a.0, b.0, right)
     }
 
@@ -253,7 +253,7 @@ pub trait Trees: Sized {
     /// Whether a parameter stands anywhere in the reference.
     fn has_param(&self, trait_ref: TraitRef) -> bool
     {
-        debug_assert!(crate::checks::is_sorted(&*self, trait_ref.args), "ir_trees::ir::trees::Trees::has_param: `trait_ref.args` is no number of its sort in this context");
+        debug_assert!(crate::checks::is_sorted(&*self, trait_ref.args), "ir_trees::ir::trees::Trees::has_param: `trait_ref.args` is {:?}, no number of its sort in this context", trait_ref.args);
         self.has(trait_ref.args, Flag::Param)
     }
 
@@ -267,21 +267,21 @@ pub trait Trees: Sized {
     /// Whether the variable of that number, which may be of any kind, stands anywhere in the argument.
     fn mentions(&self, arg: GenericArg, variable: u32) -> bool
     {
-        debug_assert!(crate::checks::is_sorted(&*self, arg), "ir_trees::ir::trees::Trees::mentions: `arg` is no number of its sort in this context");
+        debug_assert!(crate::checks::is_sorted(&*self, arg), "ir_trees::ir::trees::Trees::mentions: `arg` is {:?}, no number of its sort in this context", arg);
         self.has_marked(arg, &VariableNumber(variable))
     }
 
     /// Whether a type's or a constant's placeholder of a universe above that one stands anywhere in the argument.
     fn has_placeholder_above(&self, arg: GenericArg, universe: u32) -> bool
     {
-        debug_assert!(crate::checks::is_sorted(&*self, arg), "ir_trees::ir::trees::Trees::has_placeholder_above: `arg` is no number of its sort in this context");
+        debug_assert!(crate::checks::is_sorted(&*self, arg), "ir_trees::ir::trees::Trees::has_placeholder_above: `arg` is {:?}, no number of its sort in this context", arg);
         self.has_marked(arg, &PlaceholderAbove(universe))
     }
 
     /// The flags whose marks stand anywhere in the type.
     fn flags(&self, ty: Ty) -> TypeFlags
     {
-        debug_assert!(crate::checks::is_sorted(&*self, ty), "ir_trees::ir::trees::Trees::flags: `ty` is no number of its sort in this context");
+        debug_assert!(crate::checks::is_sorted(&*self, ty), "ir_trees::ir::trees::Trees::flags: `ty` is {:?}, no number of its sort in this context", ty);
         let marks = self.marks(ty.0);
         let infer = bit_if(marks.has(Flag::TyInfer), 1)
             + bit_if(marks.has(Flag::RegionInfer), 2)
