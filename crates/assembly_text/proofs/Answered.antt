@@ -1,5 +1,5 @@
 -- What holds of each answer, and what a new evaluator answers by.
-use Rattle.std.proofs.Common.{◌≡◌, ◌≢◌, ◌++◌, ℕ, Bool, true, List, [], Option, Result, Ok, Err, IfErr, IfOk, OnOk, refl, sym, ◌∙◌, ap, subst}
+use Rattle.std.proofs.Common.{◌≡◌, ◌≢◌, ◌++◌, ℕ, Bool, true, List, [], Option, Result, Ok, Err, IfErr, IfOk, OnOk, map, refl, sym, ◌∙◌, ap, subst}
 use Rattle.std.proofs.lemmas.Bool.{and_parts}
 use Rattle.ir_trees.specs.declared.decl.contents.ImplId.{ImplId}
 use Rattle.ir_trees.specs.declared.ir.kinds.AliasTy.{AliasTy}
@@ -21,7 +21,8 @@ use Rattle.candidate_eval.specs.Knowability.Calls.{plain_knowledge_about}
 use Rattle.candidate_eval.specs.Knowability.Orphan.{bare_knowledge}
 use Rattle.candidate_rounds.specs.declared.rounds.goals.Verdict.{Verdict}
 use Rattle.candidate_rounds.specs.Evaluators.Interface.{Fixed, fixed}
-use Rattle.candidate_rounds.specs.Evaluators.Known.{Evaluator, listing, listing_by, listing_of, pairs_of, state}
+use Rattle.candidate_rounds.specs.Evaluators.Known.{Evaluator, listing, listing_by, listing_of, notes_of, pairs_of, state}
+use Rattle.candidate_rounds.specs.Table.Entries.{GoalEntry}
 use Rattle.candidate_rounds.specs.Table.Goals.{table_seen}
 use Rattle.rounds_judge.specs.Aliases.Listed.{Listing}
 use Rattle.rounds_judge.specs.Aliases.WellListed.{well_listed}
@@ -53,7 +54,8 @@ fixed-new b c g r ps os e n l o none t =
     ap (listing_by r.context.trees) n ∙ (ap (λ (d : Context). let x : Listing = record { pairs = pairs_of d.trees ps; is_open = b } in x) e ∙ ap (λ (y : Listing). let x : Listing = record { pairs = y.pairs; is_open = b } in x) l) in
     let hidden : alias_trees r.context.trees r.opaques ≡ [] = ap (alias_trees r.context.trees) (o ∙ none) in
     let read : table_seen r.context.trees r.goals.table ≡ [] = ap (table_seen r.context.trees) t in
-    λ i. record { world = world (e i); local_crate = (e i).local.0; limits = (e i).limits; listing = listed i; opaques = hidden i; table = read i }
+    let noted : notes_of r ≡ [] = ap (map (λ (x : GoalEntry). x.1.leaks)) t in
+    λ i. record { world = world (e i); local_crate = (e i).local.0; limits = (e i).limits; listing = listed i; opaques = hidden i; table = read i; notes = noted i }
 
 -- What a goal came to in an evaluator that is new for what is given it comes to by that, also where the evaluator has gone on since.
 pub solved-before : (c : Context) (g : Given) (p : TraitPredicate) (count : ℕ) (r last : Evaluator) (d : Context) (v : Option Verdict) → IsNewFor c g r → d ≡ last.context

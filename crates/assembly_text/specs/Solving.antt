@@ -51,6 +51,7 @@ fixed_for c g = record {
   listing = well_listed (listing_of c.trees g.normal_forms.items);
   opaques = [];
   table = [];
+  notes = [];
 }
 
 -- The same, but that aliases that aren't listed may be any type in coherence.

@@ -10,7 +10,7 @@ use Rattle.ir_trees.specs.Syntax.Trees.{Tree}
 use Rattle.ir_trees.specs.Syntax.Words.{IsArgs}
 use Rattle.candidate_eval.specs.declared.eval.mode.TypingMode.TheVariants.{PostAnalysis}
 use Rattle.candidate_rounds.specs.Evaluators.Interface.{fixed}
-use Rattle.candidate_rounds.specs.Evaluators.Known.{Evaluator, state, table_of}
+use Rattle.candidate_rounds.specs.Evaluators.Known.{Evaluator, state, sure_of}
 use Rattle.candidate_rounds.specs.Table.Running.{StaysBesideTable}
 use Rattle.overlaps.specs.declared.allowance.Allowance.TheVariants as A
 use Rattle.overlaps.specs.declared.instance.CommonInstance.{CommonInstance}
@@ -56,7 +56,7 @@ pub record IsNegationAnswered (c : Context) (g : Given) (a b : ImplId) (last : C
   pub left : Evaluator
   pub tester : IsTesterFor c g first
   pub stays : StaysBesideTable first left
-  pub is : IfSome o (IsKeptApart first (table_of left) a b)
+  pub is : IfSome o (IsKeptApart first (sure_of left) a b)
   pub leaves : left.context ≡ last
 
 -- It is asked for, and a new evaluator names that clause, over a context that comes after that one.

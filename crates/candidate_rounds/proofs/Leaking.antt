@@ -21,7 +21,7 @@ use Rattle.ir_trees.specs.declared.ir.kinds.Vars.{Vars}
 use Rattle.ir_trees.specs.Hierarchy.Supers.{after_first}
 use Rattle.ir_trees.specs.Syntax.Nodes.{tree_at}
 use Rattle.ir_trees.specs.Syntax.Trees.{Forest, none, tree, Tree, BinderKind, RegionKind as RegionSort, row}
-use Rattle.ir_trees.specs.Syntax.Words.{IsRegion, IsVars, clause_kind_tree, clause_tree, region_kind_tree, region_tree}
+use Rattle.ir_trees.specs.Syntax.Words.{ClauseListFits, IsClause, IsRegion, IsVars, clause_kind_tree, clause_tree, region_kind_tree, region_tree}
 use Rattle.ir_trees.proofs.Syntax.Rows.{row-single}
 use Rattle.candidate_eval.specs.Judges.States.{VariableInfo}
 use Rattle.candidate_eval.specs.declared.eval.mode.TypingMode.{TypingMode}
@@ -303,3 +303,10 @@ pub nothing-leaks : (ts : List Tree) (m : TypingMode) (s : Inference) (above : �
     → (RegionsLeak (IsRecorded (map (clause_tree ts) s.regions)) above (map (λ (e : Entry). e.universe) s.variables) → ⊥) → Leaks above (state_of ts m s) → ⊥
 nothing-leaks ts m s above values regions (by_value i there v) = each-map (λ (x : VariableInfo). ValueLeaks above x → ⊥) (info_of ts) s.variables i values there v
 nothing-leaks ts m s above values regions (by_regions r) = regions (subst (RegionsLeak (IsRecorded (map (clause_tree ts) s.regions)) above) (universes-same ts s.variables) r)
+
+pub each-clause : (ts : List Tree) (xs : List Clause) → ClauseListFits ts xs → Each (IsClause ts) xs
+each-clause ts [] e = tt
+each-clause ts (x ∷ xs) e =
+    let first : IsClause ts x = cc in
+    let others : ClauseListFits ts xs = cc in
+    (first, each-clause ts xs others)

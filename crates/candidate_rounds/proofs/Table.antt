@@ -7,6 +7,7 @@ pub mod Giving
 pub mod Asking
 pub mod Writing
 pub mod Rounding
+pub mod Noted
 pub mod Changing
 pub mod Entering
 pub mod Entries

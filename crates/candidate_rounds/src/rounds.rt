@@ -54,6 +54,10 @@ pub struct Rounds {
     inference: Inference,
     /// How many changes there were when each open probe began, the newest last.
     probes: Vec<usize>,
+    /// The newest universe that came with the goal which is computed.
+    above: u32,
+    /// Whether a placeholder of a newer universe leaks in what the goal rests on so far.
+    leaks: bool,
 }
 
 impl Model for Rounds {

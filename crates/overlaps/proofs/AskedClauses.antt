@@ -142,7 +142,7 @@ predicate-run old begun ran new env p count stays t more f e a empty run h =
     let g = goal-is-alone old.context begun.context env p stays.grows e a empty in
     let k = goal-is-alone old.context ran.context env p all.grows e a empty in
     let u : table_of ran ≡ table_of new = sym (ap (λ (x : Fixed). x.table) f) in
-    let z : fixed ran ≡ with_table (fixed old) (table_of new) = ap (λ x. with_table x (table_of ran)) all.fixed_same ∙ ap (with_table (fixed old)) u in
+    let z : with_table (fixed ran) (table_of ran) ≡ with_table (fixed old) (table_of new) = ap (λ x. with_table x (table_of ran)) all.fixed_same ∙ ap (with_table (fixed old)) u in
     was_run (record {
       before = begun;
       later = later-table stays;

@@ -13,10 +13,11 @@ use Rattle.ir_trees.proofs.Growth.Kept.{args-kept, grows-trans}
 use Rattle.candidate_eval.specs.Interface.Evaluators.{accepted}
 use Rattle.candidate_eval.specs.Judges.States.{State}
 use Rattle.candidate_rounds.specs.Evaluators.Interface.{Fixed, fixed, judge_of}
-use Rattle.candidate_rounds.specs.Evaluators.Known.{Evaluator, IsGiven, listing, state, table_of}
+use Rattle.candidate_rounds.specs.Evaluators.Known.{Evaluator, IsGiven, listing, state, sure_of}
 use Rattle.candidate_rounds.specs.Evaluators.Leaking.{Leaks}
 use Rattle.candidate_rounds.specs.Table.Goals.{Via}
 use Rattle.candidate_rounds.specs.Table.Running.{StaysBesideTable}
+use Rattle.candidate_rounds.proofs.Table.Noted.{sure-fixed}
 use Rattle.rounds_judge.specs.Aliases.Listed.{Listing}
 use Rattle.rounds_judge.specs.Equations.Opening.{are_open}
 use Rattle.rounds_judge.specs.Table.GoalTable.{GoalTable}
@@ -49,18 +50,18 @@ no-alias-before old new p g known h =
     subst (λ (q : Forest × Forest). HaveNoAlias q.0 q.1) (λ i. (f i, s i)) h
 
 -- Headers are equal, and clauses were answered then, of which this evaluator is left: an instance where they are.
-pub instance-where-equal : (old mid between new : Evaluator) (p : Pair) (x : CommonInstance) (b : _) → StaysBesideTable old mid → StaysBesideTable mid between → table_of new ≡ table_of mid → AreOpen old.context.trees p
-    → (b ≡ true → BothHold mid.context.trees (table_of mid) (state mid) p) → (b ≡ true → HaveNoAlias (args_forest mid.context.trees p.first.header) (args_forest mid.context.trees p.second.header)) → x.is_certain ≡ b
+pub instance-where-equal : (old mid between new : Evaluator) (p : Pair) (x : CommonInstance) (b : _) → StaysBesideTable old mid → StaysBesideTable mid between → sure_of new ≡ sure_of mid → AreOpen old.context.trees p
+    → (b ≡ true → BothHold mid.context.trees (sure_of mid) (state mid) p) → (b ≡ true → HaveNoAlias (args_forest mid.context.trees p.first.header) (args_forest mid.context.trees p.second.header)) → x.is_certain ≡ b
     → IsReferenceAt (state between) p.first.def_id (args_forest between.context.trees p.first.header) new.context.trees x.trait_ref → IsInstanceWhereEqual old new (state old) p x
-instance-where-equal old mid between new p x b one two table known hold plain certain at =
-    let g = sym table in
+instance-where-equal old mid between new p x b one two sure known hold plain certain at =
+    let g = sym sure in
     let s = one.state_same in
     let header = (args-kept old.context between.context p.first.header (grows-trans old.context mid.context between.context one.grows two.grows) known.0.1).1 in
     record {
       is = reference-said (state old) (state between) p.first.def_id p.first.def_id (args_forest old.context.trees p.first.header) (args_forest between.context.trees p.first.header) new.context.trees x.trait_ref (two.state_same ∙ s) refl
           header at;
       hold = λ e.
-          both-said old.context mid.context (table_of new) (state old) p one.grows known
+          both-said old.context mid.context (sure_of new) (state old) p one.grows known
           (subst (λ (q : GoalTable Via × State). BothHold mid.context.trees q.0 q.1 p) (λ i. (g i, s i)) (hold (sym certain ∙ e)));
       no_alias = λ e. no-alias-before old.context mid.context p one.grows known (plain (sym certain ∙ e));
     }
@@ -83,13 +84,13 @@ instance-aside : (old began ran new : Evaluator) (p : Pair) (x : CommonInstance)
     → new.context ≡ ran.context → IsInstanceWhereEqual began ran (state began) p x → IsInstanceWhereEqual old new (aside after) p x
 instance-aside old began ran new p x after g known s f n h =
     let z : (ran.context ≡ new.context) = sym n in
-    let t : table_of ran ≡ table_of new = ap (λ (y : Fixed). y.table) (sym f) in
+    let t : sure_of ran ≡ sure_of new = sym (sure-fixed f) in
     let k = reference-said (aside after) (state began) p.first.def_id p.first.def_id (args_forest old.context.trees p.first.header) (args_forest began.context.trees p.first.header) ran.context.trees x.trait_ref s refl
     (args-kept old.context began.context p.first.header g known.0.1).1 h.is in
     record {
       is = subst (λ (c : Context). IsReferenceAt (aside after) p.first.def_id (args_forest old.context.trees p.first.header) c.trees x.trait_ref) z k;
       hold = λ e.
-          both-said old.context began.context (table_of new) (aside after) p g known
+          both-said old.context began.context (sure_of new) (aside after) p g known
           (subst (λ (q : GoalTable Via × State). BothHold began.context.trees q.0 q.1 p) (λ i. (t i, s i)) (h.hold e));
       no_alias = λ e. no-alias-before old.context began.context p g known (h.no_alias e);
     }
@@ -165,8 +166,8 @@ module _ (old mid new : Evaluator) (a b : ImplId) (p : Pair) (grows : Grows old.
           is = reference-said (aside h.after) (aside h.after) o.i.trait_ref.def_id p.first.def_id (first_header c S o.i o.j) (args_forest mid.context.trees p.first.header) new.context.trees x.trait_ref refl o.first.of_trait f h.at.is;
           certain = λ e. record {
             no_alias = subst (λ (q : Forest × Forest). HaveNoAlias q.0 q.1) (λ i. (f i, g i)) (h.at.no_alias e);
-            first = all-declared c mid.context (table_of new) S (aside h.after) o.i p.first grows o.first (h.at.hold e).first;
-            second = all-declared c mid.context (table_of new) (opened S o.i) (aside h.after) o.j p.second grows o.second (h.at.hold e).second;
+            first = all-declared c mid.context (sure_of new) S (aside h.after) o.i p.first grows o.first (h.at.hold e).first;
+            second = all-declared c mid.context (sure_of new) (opened S o.i) (aside h.after) o.j p.second grows o.second (h.at.hold e).second;
           };
           no_leak = λ e l. h.no_leak e (subst (λ (u : ℕ). Leaks u h.after) (sym (ap (λ (U : State). U.newest_universe) s ∙ both-universe S o.i o.j)) l);
         };
@@ -186,7 +187,7 @@ instance-probed : (old began ran new : Evaluator) (T : State) (a b : ImplId) (x 
 instance-probed old began ran new T a b x cx f s g n h =
     let k = h.holds in
     let z : (ran.context ≡ new.context) = sym n in
-    let t : table_of ran ≡ table_of new = ap (λ (y : Fixed). y.table) (sym g) in
+    let t : sure_of ran ≡ sure_of new = sym (sure-fixed g) in
     record {
       i = h.i;
       j = h.j;

@@ -34,7 +34,7 @@ use Rattle.candidate_assembly.specs.Goals.TraitGoals.{trait_goal}
 use Rattle.candidate_assembly.specs.Rules.Opaques.{with_type_for}
 use Rattle.candidate_assembly.proofs.Calls.Keeping.{trait-goal-kept, trait-goal-says}
 use Rattle.candidate_rounds.specs.Evaluators.Interface.{Fixed, Rest, fixed, judge_of, rest}
-use Rattle.candidate_rounds.specs.Evaluators.Known.{Each, Evaluator, listing, state, table_of}
+use Rattle.candidate_rounds.specs.Evaluators.Known.{Each, Evaluator, listing, state, sure_of, table_of}
 use Rattle.candidate_rounds.specs.Table.Normalized.{IsNormalized}
 use Rattle.candidate_rounds.specs.Table.Normalizing.{IsProjection, goal_of_trait, trait_predicate}
 use Rattle.candidate_rounds.specs.Table.Projected.{with_normal}
@@ -50,7 +50,7 @@ use Rattle.overlaps.specs.Apart.{aside}
 use Rattle.overlaps.specs.PartTraits.{HaveVariable, RestsOnPart}
 use Rattle.overlaps.specs.Refused.{StaysBesideKnown}
 use Rattle.overlaps.specs.Stopping.{IsLater, IsOverlapStop, step_normalizing}
-use Rattle.overlaps.specs.Together.{AreLeft, CameOf, HasYes, IsGivenAs, IsNormalAt, IsObligation, IsOfProjection, IsProjectedAs, IsProjectionType, Obligation, StandsIn, gives_at, next_type, pending_at, pendings_at, with_type}
+use Rattle.overlaps.specs.Together.{AreLeft, CameOf, HasYes, IsGivenAs, IsNormalAt, IsNormalUnder, IsObligation, IsOfProjection, IsProjectedAs, IsProjectionType, Obligation, StandsIn, gives_at, next_type, pending_at, pendings_at, with_type}
 use Rattle.overlaps.specs.declared.together.ProjectionType.{ProjectionType}
 use Rattle.overlaps.specs.declared.together.ProjectionType.TheVariants as P
 
@@ -70,9 +70,9 @@ listed-later l = ap (λ (f : Fixed). f.listing) l.fixed_same
 
 -- A sure response that came of normalising the projection says what it is.
 pub normal-at : (old mid : Evaluator) (env : ParamEnv) (a : AliasTy) (response : CanonicalResponse) (known : Option State) → StaysBesideTable old mid → IsParamEnv old.context.trees env
-    → env_forest old.context.trees env ≡ no_trees → KindFits old.context.trees (K.Alias a) → CameOf old mid env a response → response.certainty ≡ Yes → gives_at mid env a response ≡ known
-    → IsNormalAt old (state old) (kind_tree old.context.trees (K.Alias a)) known
-normal-at old mid env a response known stays env-fits empty fits came sure gives =
+    → KindFits old.context.trees (K.Alias a) → CameOf old mid env a response → response.certainty ≡ Yes → gives_at mid env a response ≡ known
+    → IsNormalUnder old (state old) (env_forest old.context.trees env) (kind_tree old.context.trees (K.Alias a)) known
+normal-at old mid env a response known stays env-fits fits came sure gives =
     let by = came.by in
     let g = came.later.grows in
     let args = alias-args old.context.trees a fits in
@@ -85,14 +85,14 @@ normal-at old mid env a response known stays env-fits empty fits came sure gives
       later = came.later;
       stands = came.stands;
       env = env;
-      no_env = (env-kept old.context by.context env g env-fits).1 ∙ empty;
+      under = (env-kept old.context by.context env g env-fits).1;
       alias = a;
       is = alias-tree-kept old.context by.context a g fits;
       rounds = came.rounds;
       table = table_of mid;
       trees = mid.context.trees;
       response = response;
-      trait_holds = subst (λ (S : State). HasYes (table_of by) (key_at S (goal_of_trait by.context env a))) came.stands came.trait_holds;
+      trait_holds = subst (λ (S : State). HasYes (sure_of by) (key_at S (goal_of_trait by.context env a))) came.stands came.trait_holds;
       comes = came.comes;
       sure = sure;
       of_instances = came.of_instances;
@@ -141,7 +141,7 @@ trait-key-later r s old e a p stays grows by h =
 -- What normalising it answers, and why it stops.
 
 pub came-of : (old by new : Evaluator) (e : ParamEnv) (a : AliasTy) (n : ℕ) (r : Result (Option CanonicalResponse) Stop) → StaysBesideTable old by
-    → HasYes (table_of by) (key_at (state by) (goal_of_trait by.context e a)) → IsOfProjection by.context e a → IsNormalized new.context.trees by e a n (table_of new) r
+    → HasYes (sure_of by) (key_at (state by) (goal_of_trait by.context e a)) → IsOfProjection by.context e a → IsNormalized new.context.trees by e a n (table_of new) r
     → IfOk r (λ o. IfSome o (CameOf old new e a))
 came-of old by new e a n (Ok (Some x)) stays holds is h = record { by = by; later = later-table stays; stands = stays.state_same; rounds = n; trait_holds = holds; comes = h; of_instances = is }
 came-of old by new e a n (Ok None) stays holds is h = tt
@@ -170,12 +170,12 @@ still-projection c d e a (Err s) g h = tt
 
 -- What a response says of it that is given.
 pub projected-as : (old mid new : Evaluator) (env : ParamEnv) (a : AliasTy) (response : CanonicalResponse) → StaysBesideTable old mid → IsParamEnv old.context.trees env
-    → env_forest old.context.trees env ≡ no_trees → KindFits old.context.trees (K.Alias a) → CameOf old mid env a response → (t : ProjectionType) → IsGivenAs mid new env a response t
-    → IsProjectedAs old new (kind_tree old.context.trees (K.Alias a)) t
-projected-as old mid new env a response stays fits empty alias came P.Open h = h ∙ stays.state_same
-projected-as old mid new env a response stays fits empty alias came P.Impossible h = normal-at old mid env a response None stays fits empty alias came h.0 h.1
-projected-as old mid new env a response stays fits empty alias came (P.Type t) h =
-    (normal-at old mid env a response (Some (state new)) stays fits empty alias came h.0 h.1, subst (λ (S : State). HasTree new.context.trees t (next_type S)) stays.state_same h.2)
+    → KindFits old.context.trees (K.Alias a) → CameOf old mid env a response → (t : ProjectionType) → IsGivenAs mid new env a response t
+    → IsProjectedAs old new (env_forest old.context.trees env) (kind_tree old.context.trees (K.Alias a)) t
+projected-as old mid new env a response stays fits alias came P.Open h = h ∙ stays.state_same
+projected-as old mid new env a response stays fits alias came P.Impossible h = normal-at old mid env a response None stays fits alias came h.0 h.1
+projected-as old mid new env a response stays fits alias came (P.Type t) h =
+    (normal-at old mid env a response (Some (state new)) stays fits alias came h.0 h.1, subst (λ (S : State). HasTree new.context.trees t (next_type S)) stays.state_same h.2)
 
 -- A goal whose projection has its type
 module _ (old mid : Evaluator) (g : Obligation) (type : Ty) (a : AliasTy) (stays : StaysBesideKnown old mid) (fit : IsObligation old.context.trees g) (is : IsProjectionType old.context.trees type a) where
@@ -219,11 +219,19 @@ module _ (old mid : Evaluator) (g : Obligation) (type : Ty) (a : AliasTy) (stays
         (left ∙ (λ i. pendings_at new (push i) ++ (s i).pending))
 
 -- What is said of the variable for its type and of a term, by the trees before.
+
+pub equal-under : (old at : Evaluator) (env : ParamEnv) (ty term : Ty) (o : Option State) → Grows old.context at.context → IsParamEnv old.context.trees env
+    → HasTree at.context.trees ty (next_type (state old)) → IsTy old.context.trees term
+    → arguments_accepted (judge_of (fixed at)) (state at) at.context.trees env (GA.Ty ty) (GA.Ty term) ≡ o
+    → accepted (judge_of (fixed at)) (state at) (env_forest old.context.trees env) (alone (next_type (state old))) (alone (ty_tree old.context.trees term)) ≡ o
+equal-under old at env ty term o g fits has sort h =
+    let e = (env-kept old.context at.context env g fits).1 in
+    let t = (ty-kept old.context at.context term g sort).1 in
+    subst (λ (q : Env × Tree × Tree). accepted (judge_of (fixed at)) (state at) q.0 (alone q.1) (alone q.2) ≡ o) (λ i. (e i, has.1 i, t i)) h
+
 pub equal-as : (old at : Evaluator) (env : ParamEnv) (ty term : Ty) (o : Option State) → Grows old.context at.context → IsParamEnv old.context.trees env → env_forest old.context.trees env ≡ no_trees
     → HasTree at.context.trees ty (next_type (state old)) → IsTy old.context.trees term
     → arguments_accepted (judge_of (fixed at)) (state at) at.context.trees env (GA.Ty ty) (GA.Ty term) ≡ o
     → accepted (judge_of (fixed at)) (state at) no_trees (alone (next_type (state old))) (alone (ty_tree old.context.trees term)) ≡ o
 equal-as old at env ty term o g fits empty has sort h =
-    let e = (env-kept old.context at.context env g fits).1 ∙ empty in
-    let t = (ty-kept old.context at.context term g sort).1 in
-    subst (λ (q : Env × Tree × Tree). accepted (judge_of (fixed at)) (state at) q.0 (alone q.1) (alone q.2) ≡ o) (λ i. (e i, has.1 i, t i)) h
+    subst (λ (e : Env). accepted (judge_of (fixed at)) (state at) e (alone (next_type (state old))) (alone (ty_tree old.context.trees term)) ≡ o) empty (equal-under old at env ty term o g fits has sort h)

@@ -15,7 +15,7 @@ use Rattle.ir_trees.specs.Unification.Substitutions.{alone}
 use Rattle.ir_trees.proofs.Growth.Kept.{grows-refl, grows-trans}
 use Rattle.candidate_eval.specs.Dynamic.ObjectRequirements.{arguments_of, trait_said}
 use Rattle.candidate_eval.specs.Interface.Evaluators.{accepted, pending_of, pendings_of}
-use Rattle.candidate_eval.specs.Judges.States.{Pending, State, added, with_pending}
+use Rattle.candidate_eval.specs.Judges.States.{Env, Pending, State, added, with_pending}
 use Rattle.candidate_eval.specs.declared.eval.certainty.Certainty.{Certainty}
 use Rattle.candidate_rounds.specs.Evaluators.Interface.{Fixed, fixed, judge_of}
 use Rattle.candidate_rounds.specs.Evaluators.Known.{Each, Evaluator, state}
@@ -32,7 +32,7 @@ use Rattle.overlaps.specs.Goals.{WasRefused}
 use Rattle.overlaps.specs.PartTraits.{IsOfInstances, RestsOnPart, SpeaksOfNoPart, trait_spoken_of}
 use Rattle.overlaps.specs.Refused.{RefusesInstances, StaysBesideKnown, goal_alone}
 use Rattle.overlaps.specs.Stopping.{IsLater}
-use Rattle.overlaps.specs.Together.{AreLeft, AreLeftOfAll, CannotHold, GoalIsRefused, IsNormalAt, IsObligation, IsTried, Obligation, SaysOfProjection, StandsIn, below, beside, here, next_type, no_type, no_type_as_said, one_is_refused, one_is_settled, one_is_unsettled, one_with_values, other_type, pending_at, pendings_at, same_type, with_alone, with_its_type, with_type, with_values}
+use Rattle.overlaps.specs.Together.{AreLeft, AreLeftOfAll, CannotHold, GoalIsRefused, IsNormalAt, IsNormalUnder, IsObligation, IsTried, Obligation, SaysOfProjection, StandsIn, below, beside, here, next_type, no_type, no_type_as_said, one_is_refused, one_is_settled, one_is_unsettled, one_with_values, other_type, pending_at, pendings_at, same_type, with_alone, with_its_type, with_type, with_values}
 
 -- each of the goals is among the others
 abbrev pub Among : List Pending → List Pending → Type 0
@@ -76,13 +76,13 @@ with-more {ps = ps} qs s (same_type p t u T U by c i n l e h) = same_type p t u 
 
 -- What is said of a later evaluator is so of an earlier one.
 
-normal-earlier : {r s : Evaluator} {S : State} {t : Tree} {o : Option State} → IsLater r s → IsNormalAt s S t o → IsNormalAt r S t o
+pub normal-earlier : {r s : Evaluator} {S : State} {e : Env} {t : Tree} {o : Option State} → IsLater r s → IsNormalUnder s S e t o → IsNormalUnder r S e t o
 normal-earlier l n = record {
   by = n.by;
   later = later-then l n.later;
   stands = n.stands;
   env = n.env;
-  no_env = n.no_env;
+  under = n.under;
   alias = n.alias;
   is = n.is;
   rounds = n.rounds;

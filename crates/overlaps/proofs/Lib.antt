@@ -24,6 +24,7 @@ mod AskedPairs
 mod PartTraits
 mod Uncertainty
 mod Specialized
+mod Typed
 mod Negated
 mod Jointly
 mod JointNormals

@@ -1,5 +1,5 @@
 -- Clauses that are known not to hold, by earlier evaluators and by the declared impls.
-use Rattle.std.proofs.Common.{◌≡◌, ◌<◌, ◌∷◌, [], ℕ, zero, suc, Bool, true, false, List, Option, Some, None, length, map, slice_get, slice_index_or, refl, sym, ap, arith, inl, inr, subst, ◌∙◌}
+use Rattle.std.proofs.Common.{◌≡◌, ◌<◌, ◌∷◌, [], ℕ, zero, suc, Bool, true, false, List, Option, Some, None, length, map, slice_get, slice_index_or, Result, Ok, Err, IfOk, refl, sym, ap, arith, inl, inr, subst, ◌∙◌}
 use Rattle.std.specs.Prelude.{IfSome}
 use Rattle.ir_trees.specs.declared.decl.contents.ImplId.{ImplId}
 use Rattle.ir_trees.specs.declared.ir.kinds.Args.{Args}
@@ -35,14 +35,15 @@ use Rattle.candidate_assembly.specs.Calls.Impls.{impl_kinds}
 use Rattle.candidate_assembly.specs.Goals.TraitGoals.{trait_goal}
 use Rattle.candidate_assembly.proofs.Rules.ImplSteps.{impl-same}
 use Rattle.candidate_rounds.specs.Evaluators.Interface.{Fixed, fixed, judge_of}
-use Rattle.candidate_rounds.specs.Evaluators.Known.{Evaluator, state, table_of}
+use Rattle.candidate_rounds.specs.Evaluators.Known.{Evaluator, state, sure_of}
 use Rattle.candidate_rounds.specs.Evaluators.Leaking.{Leaks}
 use Rattle.candidate_rounds.specs.Table.Goals.{Via}
 use Rattle.candidate_rounds.specs.Table.Running.{StaysBesideTable}
 use Rattle.candidate_rounds.proofs.Stops.ResponseStops.{contains-mapped}
+use Rattle.candidate_rounds.proofs.Table.Noted.{sure-fixed}
 use Rattle.rounds_judge.specs.Table.GoalTable.{GoalTable, verdict_in}
 use Rattle.rounds_judge.specs.Table.Keys.{key_at}
-use Rattle.overlaps.specs.Answered.{IsPlainYes}
+use Rattle.overlaps.specs.Answered.{HoldsForAll, IsPlainYes}
 use Rattle.overlaps.specs.Apart.{OfDeclared, aside, entered, opened}
 use Rattle.overlaps.specs.Negated.{AreImplied, ArePlugged, BothArePlugged, ClauseIsNegated, ImpliesDenied, IsDenied, IsEnvironmentAt, IsNegatedAt, IsNegatedBy, IsNegatedFrom, IsNegatedOfPair, IsNegatedUnder, MayBePlugged, OneIsDenied, OneIsNegated, both_forests, clauses_at, names_of, no_more, one_more, turned, variables_of, with_names}
 use Rattle.overlaps.specs.Opening.{AreOpened, IsOpenedOf, IsOpenedWith}
@@ -58,6 +59,11 @@ use Rattle.overlaps.proofs.Universes.{both-universe}
 -- what is something isn't nothing
 pub some-not-none : {A : Type 0} (o : Option A) (x : A) → o ≡ Some x → o ≡ None → ⊥
 some-not-none o x e n = let clash : Some x ≡ None = sym e ∙ n in absurd cc
+
+-- two things that are said of a result
+pub both-ok : {A E : Type 0} (P Q : A → Type 0) (r : Result A E) → IfOk r P → IfOk r Q → IfOk r (λ x. P x × Q x)
+both-ok P Q (Ok x) p q = (p, q)
+both-ok P Q (Err e) p q = tt
 
 -- what is said of something holds of it still
 pub some-weaker : {A : Type 0} {P Q : A → Type 0} → ((x : A) → P x → Q x) → (o : Option A) → IfSome o P → IfSome o Q
@@ -127,8 +133,9 @@ tree-in-place ts of xs d n fit is l = ap (λ (us : List Tree). slice_get us n) (
 pub clause-denied : (old mid : Evaluator) (env : ParamEnv) (x : Clause) (p q : TraitPredicate) (T : GoalTable Via) → StaysBesideTable old mid → IsParamEnv old.context.trees env
     → IsArgs old.context.trees p.trait_ref.args → q.trait_ref ≡ p.trait_ref → p.polarity ≡ turned q.polarity
     → trait_said (clause_tree old.context.trees x).head ≡ Some (p.trait_ref.def_id, p.polarity) → arguments_of (clause_tree old.context.trees x) ≡ args_forest old.context.trees p.trait_ref.args
-    → IsPlainYes (verdict_in T (key_at (state mid) (trait_goal mid.context.trees env q))) → IsDenied (env_forest old.context.trees env) T (state old) (clause_tree old.context.trees x)
-clause-denied old mid env x p q T stays e a reference turns said fits sure =
+    → IsPlainYes (verdict_in T (key_at (state mid) (trait_goal mid.context.trees env q))) → HoldsForAll (verdict_in T (key_at (state mid) (trait_goal mid.context.trees env q)))
+    → IsDenied (env_forest old.context.trees env) T (state old) (clause_tree old.context.trees x)
+clause-denied old mid env x p q T stays e a reference turns said fits sure all =
     let s = stays.state_same in
     let r = sym reference in
     record {
@@ -137,6 +144,7 @@ clause-denied old mid env x p q T stays e a reference turns said fits sure =
       arguments = ap (λ (y : TraitRef). args_forest mid.context.trees y.args) reference ∙ ((args-kept old.context mid.context p.trait_ref.args stays.grows a).1 ∙ sym fits);
       under = (env-kept old.context mid.context env stays.grows e).1;
       answered = subst (λ (S : State). IsPlainYes (verdict_in T (key_at S (trait_goal mid.context.trees env q)))) s sure;
+      for_all = subst (λ (S : State). HoldsForAll (verdict_in T (key_at S (trait_goal mid.context.trees env q)))) s all;
     }
 
 -- One of several clauses, said of a later evaluator.
@@ -357,9 +365,9 @@ module _ (old one two mid : Evaluator) (a b : ImplId) (p : Pair) (first : Grows 
 
 -- A probe that was open meanwhile, in which nothing was pending at first, changes nothing of it.
 pub negated-probed : (old began ran new : Evaluator) (a b : ImplId) → began.context ≡ old.context → fixed began ≡ fixed old → state began ≡ aside (state old) → fixed new ≡ fixed ran
-    → (n : ℕ) → OfDeclared began.context a b (IsNegatedBy began (state began) (table_of ran) n) → OfDeclared old.context a b (IsNegatedBy old (aside (state old)) (table_of new) n)
+    → (n : ℕ) → OfDeclared began.context a b (IsNegatedBy began (state began) (sure_of ran) n) → OfDeclared old.context a b (IsNegatedBy old (aside (state old)) (sure_of new) n)
 negated-probed old began ran new a b cx f s g n h =
-    let t : table_of ran ≡ table_of new = sym (ap (λ (y : Fixed). y.table) g) in
+    let t : sure_of ran ≡ sure_of new = sym (sure-fixed g) in
     let k = h.holds in
     let i = h.i in
     let j = h.j in

@@ -37,7 +37,7 @@ use Rattle.candidate_rounds.specs.Evaluators.Interface.{Fixed, fixed, judge_of}
 use Rattle.candidate_rounds.specs.Evaluators.Known.{Evaluator, listing, state, table_of}
 use Rattle.candidate_rounds.specs.Table.Goals.{Via}
 use Rattle.candidate_rounds.specs.Table.Normalizing.{rounds_shown}
-use Rattle.candidate_rounds.specs.Table.Running.{StaysBesideTable, with_table}
+use Rattle.candidate_rounds.specs.Table.Running.{StaysBesideTable, judged_by, with_table}
 use Rattle.candidate_rounds.proofs.Table.Running.{stays-trans}
 use Rattle.rounds_judge.specs.Equations.Opening.{are_open}
 use Rattle.rounds_judge.specs.Table.GoalTable.{verdict_in}
@@ -60,8 +60,11 @@ use Rattle.overlaps.proofs.PureFolder.{StaysAsAsked, asked-refl}
 use Rattle.overlaps.proofs.Refusing.{got-fits, instance-kept}
 
 -- what is fixed stays where all stays but nodes
-pub fixed-kept : {r s : Evaluator} → StaysAsAsked r s → fixed s ≡ fixed r
+pub fixed-kept : {r s : Evaluator} → StaysAsAsked r s → judged_by s ≡ judged_by r
 fixed-kept {r} {s} k = ap (λ (f : Fixed). with_table f (table_of s)) k.stays.fixed_same ∙ ap (with_table (fixed r)) k.table
+
+pub judged-same : (r s : Evaluator) → fixed s ≡ fixed r → judged_by s ≡ judged_by r
+judged-same r s e = ap (λ (f : Fixed). with_table f f.table) e
 
 -- Why a Maybe is one, said of an evaluator before it.
 pub maybe-earlier : (old mid : Evaluator) (env : ParamEnv) (r : TraitRef) (w : Cause) → StaysAsAsked old mid → IsParamEnv old.context.trees env → IsArgs old.context.trees r.args
@@ -227,7 +230,7 @@ one-more old now next env o before n l m a so k g e known asked added =
 -- Where the headers are equal: the first impl's clauses were looked at by a table that a run had left, and then the second one's.
 
 -- by what a later evaluator has, without an environment
-pub lists-before : (old mid new : Evaluator) (env : ParamEnv) (o : Opened) (before l : List OpenClause) (ts : List Tree) → Grows old.context mid.context → state mid ≡ state old → fixed mid ≡ fixed new
+pub lists-before : (old mid new : Evaluator) (env : ParamEnv) (o : Opened) (before l : List OpenClause) (ts : List Tree) → Grows old.context mid.context → state mid ≡ state old → judged_by mid ≡ judged_by new
     → env_forest mid.context.trees env ≡ none → IsOpen old.context.trees o → ListsAll (here_at mid env) ts (open_impl mid.context.trees o) before l
     → ListsAll (here_after old new (state old)) ts (open_impl old.context.trees o) before l
 lists-before old mid new env o before l ts g s f n known h =
@@ -246,21 +249,21 @@ lists-there old new o c d before l g h = lists-later (here_after old new (state 
 pub pair-lists : (old began ran new : Evaluator) (p : Pair) (after : State) (l : List OpenClause) → Grows old.context began.context → AreOpen old.context.trees p → headers_equated old p ≡ Some after
     → state began ≡ aside after → fixed new ≡ fixed ran → new.context ≡ ran.context → ListsWhereEqual began ran (state began) p l → ListsOfPair old new p l
 pair-lists old began ran new p after l g known equal s f c h =
-    let fs = sym f in
+    let fs = judged-same new ran (sym f) in
     let cs = sym c in
-    let there : ListsBoth (record { context = began.context; fixed = fixed new; state = aside after; env = none }) new.context.trees (open_impl began.context.trees p.first) (open_impl began.context.trees p.second) l
+    let there : ListsBoth (record { context = began.context; fixed = judged_by new; state = aside after; env = none }) new.context.trees (open_impl began.context.trees p.first) (open_impl began.context.trees p.second) l
     = subst (λ (q : Fixed × State × Context). ListsBoth (record { context = began.context; fixed = q.0; state = q.1; env = none }) q.2.trees (open_impl began.context.trees p.first) (open_impl began.context.trees p.second) l)
     (λ i. (fs i, s i, cs i)) h in
     pair_equal after equal (record { between = there.between; of_first = side p.first known.0 [] there.between there.of_first; of_second = side p.second known.1 there.between l there.of_second })
   where
     side : (o : Opened) → IsOpen old.context.trees o → (xs ys : List OpenClause)
-        → ListsAll (record { context = began.context; fixed = fixed new; state = aside after; env = none }) new.context.trees (open_impl began.context.trees o) xs ys
+        → ListsAll (record { context = began.context; fixed = judged_by new; state = aside after; env = none }) new.context.trees (open_impl began.context.trees o) xs ys
         → ListsAll (here_after old new (aside after)) new.context.trees (open_impl old.context.trees o) xs ys
     side o is xs ys k =
         let same = clauses-kept old.context began.context o.wheres.items g is.2.fit in
         let impl = same-impl old.context began.context o g is in
         lists-earlier (here_after old new (aside after)) began.context new.context.trees (open_impl old.context.trees o) xs (length o.wheres.items) ys g same
-        (subst (λ (q : OpenImpl). ListsOpen (record { context = began.context; fixed = fixed new; state = aside after; env = none }) new.context.trees q xs (length o.wheres.items) ys) impl k)
+        (subst (λ (q : OpenImpl). ListsOpen (record { context = began.context; fixed = judged_by new; state = aside after; env = none }) new.context.trees q xs (length o.wheres.items) ys) impl k)
 
 -- What was said of open impls, said of the declared ones, which were opened where the first evaluator stood.
 
@@ -322,7 +325,7 @@ lists-probed old began ran new S a b l cx f s g c (of_declared h) = of_declared 
         impls_undecided (subst (λ (q : Fixed × State). are_open q.0.listing (opened (opened q.1 h.i) h.j) ≡ false) (λ i. (f i, s i)) rigid)
         (subst (λ (q : Context × State). HeadersHaveAlias (first_header q.0 q.1 h.i h.j) (second_header q.0 q.1 h.i h.j)) (λ i. (cx i, s i)) alias) none-there
     at (impls_equal after e both) =
-        let gs = sym g in
+        let gs = judged-same new ran (sym g) in
         let cs = sym c in
         impls_equal after (subst (λ (q : Fixed × Context × State). MakesHeadersEqual (judge_of q.0) q.1 q.2 h.i h.j after) (λ i. (f i, cx i, s i)) e)
         (subst (λ (q : Fixed × Context × Context × State).

@@ -12,7 +12,7 @@ use Rattle.ir_trees.specs.Instantiation.Folding.{substituted_tree}
 use Rattle.ir_trees.specs.Syntax.Nodes.{kind_at}
 use Rattle.ir_trees.specs.Syntax.Trees.{ClauseKind, Forest, Tree}
 use Rattle.ir_trees.specs.Syntax.Words.{ClauseListFits, IsClause, IsParamEnv, args_forest, clause_list_forest, clause_tree, env_forest}
-use Rattle.ir_trees.proofs.Growth.Kept.{grows-refl, grows-trans}
+use Rattle.ir_trees.proofs.Growth.Kept.{args-kept, grows-refl, grows-trans}
 use Rattle.ir_folds.proofs.Instantiation.Joining.{clause-kept}
 use Rattle.ir_trees.proofs.Syntax.Rows.{row-single}
 use Rattle.candidate_eval.specs.Dynamic.Required.{each_of}
@@ -22,22 +22,23 @@ use Rattle.candidate_eval.proofs.Dynamic.Objects.{env-kept}
 use Rattle.candidate_eval.proofs.Dynamic.Required.{pushed_fit, pushed_trees}
 use Rattle.candidate_assembly.specs.Answers.KnownImpls.{kinds_of_impl}
 use Rattle.candidate_rounds.specs.Evaluators.Interface.{Fixed, fixed, judge_of}
-use Rattle.candidate_rounds.specs.Evaluators.Known.{Evaluator, state, table_of}
+use Rattle.candidate_rounds.specs.Evaluators.Known.{Evaluator, state, sure_of}
 use Rattle.candidate_rounds.specs.Evaluators.Leaking.{Leaks}
 use Rattle.candidate_rounds.specs.Table.Goals.{Via}
-use Rattle.candidate_rounds.specs.Table.Running.{StaysBesideTable}
+use Rattle.candidate_rounds.proofs.Table.Noted.{sure-fixed}
 use Rattle.rounds_judge.specs.Table.GoalTable.{GoalTable}
-use Rattle.overlaps.specs.Answered.{AllHold}
 use Rattle.overlaps.specs.Apart.{IfDeclared, aside, entered}
 use Rattle.overlaps.specs.Instance.{HaveNoAlias}
 use Rattle.overlaps.specs.Opening.{AreEntered, IsOpenedWith}
 use Rattle.overlaps.specs.Refused.{AreOpen, IsOpen, locals_of}
-use Rattle.overlaps.specs.Specialized.{AreAlike, IsEnvironmentOf, IsEnvironmentOfOpen, IsFoundOfPair, IsFoundWhereEqual, IsInstanceBy, IsSpecialization, IsSpecializationAt, entered_wheres}
+use Rattle.overlaps.specs.Specialized.{AreAlike, HoldBy, IsEnvironmentOf, IsEnvironmentOfOpen, IsFoundOfPair, IsFoundWhereEqual, IsInstanceBy, IsSpecialization, IsSpecializationAt, clauses_with, entered_wheres}
 use Rattle.overlaps.specs.declared.opening.Opened.{Opened}
 use Rattle.overlaps.specs.declared.opening.Pair.{Pair}
 use Rattle.overlaps.specs.declared.specializing.Specialization.{Specialization}
 use Rattle.overlaps.specs.declared.specializing.Specialization.TheVariants as answer
-use Rattle.overlaps.proofs.PureFolder.{all-declared-with, all-said}
+use Rattle.overlaps.specs.Stopping.{IsLater}
+use Rattle.overlaps.proofs.Stopping.{later-begun}
+use Rattle.overlaps.proofs.Typed.{hold-by-earlier}
 use Rattle.overlaps.proofs.OpenedImpls.{opened-later}
 use Rattle.overlaps.proofs.Universes.{opened-universe}
 
@@ -115,13 +116,17 @@ wheres-kept c mid ls (x ∷ xs) g f =
     ap (λ (t : Tree). substituted_tree ls t ∷ map (λ (y : Clause). substituted_tree ls (clause_tree mid.trees y)) xs) e
     ∙ ap (λ (ts : List Tree). substituted_tree ls (clause_tree c.trees x) ∷ ts) (wheres-kept c mid ls xs g others)
 
+opened-clauses : (c mid : Context) (ls : Forest) (i : Impl) (o : Opened) → Grows c mid → IsOpenedWith c ls i mid o
+    → clauses_with mid.trees (args_forest mid.trees o.locals) o.wheres.items ≡ clauses_with c.trees ls i.wheres
+opened-clauses c mid ls i o g h =
+    let a = h.locals in
+    let b = h.wheres in
+    ap (λ (q : Forest × List Clause). clauses_with mid.trees q.0 q.1) (λ i. (a i, b i)) ∙ wheres-kept c mid ls i.wheres g h.given.wheres
+
 environment-declared : (c mid : Context) (ls : Forest) (i : Impl) (o : Opened) (env : Env) → Grows c mid → IsOpenedWith c ls i mid o → IsEnvironmentOfOpen mid o env
     → IsEnvironmentOf c (map (λ (x : Clause). substituted_tree ls (clause_tree c.trees x)) i.wheres) env
 environment-declared c mid ls i o env g h e =
-    let a = h.locals in
-    let b = h.wheres in
-    let same : map (λ (x : Clause). substituted_tree (args_forest mid.trees o.locals) (clause_tree mid.trees x)) o.wheres.items ≡ map (λ (x : Clause). substituted_tree ls (clause_tree c.trees x)) i.wheres
-    = ap (λ (q : Forest × List Clause). map (λ (x : Clause). substituted_tree q.0 (clause_tree mid.trees x)) q.1) (λ i. (a i, b i)) ∙ wheres-kept c mid ls i.wheres g h.given.wheres in
+    let same = opened-clauses c mid ls i o g h in
     record {
       later = e.later;
       grows = grows-trans c mid e.later g e.grows;
@@ -137,39 +142,35 @@ pub are-open : (c : Context) (S : State) (a b : ImplId) (later : Context) (left 
 are-open c S a b later left p h =
     (is-open c (rigid S (kinds_of_impl h.i)) h.i later p.first h.first, is-open c (locals_of (entered S h.i) h.j) h.j later p.second h.second)
 
--- What holds by a later evaluator's table, which is the one that is left, holds at the state before.
-pub hold-earlier : (old mid new : Evaluator) (env : ParamEnv) (o : Opened) → StaysBesideTable old mid → table_of new ≡ table_of mid → IsParamEnv old.context.trees env → IsOpen old.context.trees o
-    → AllHold (env_forest mid.context.trees env) mid.context.trees (table_of mid) (state mid) (args_forest mid.context.trees o.locals) o.wheres.items
-    → AllHold (env_forest old.context.trees env) old.context.trees (table_of new) (state old) (args_forest old.context.trees o.locals) o.wheres.items
-hold-earlier old mid new env o stays table e known h =
-    let E = (env-kept old.context mid.context env stays.grows e).1 in
-    let t = sym table in
-    let s = stays.state_same in
-    all-said old.context mid.context (env_forest old.context.trees env) (table_of new) (state old) o stays.grows known
-    (subst (λ (q : Env × GoalTable Via × State). AllHold q.0 mid.context.trees q.1 q.2 (args_forest mid.context.trees o.locals) o.wheres.items) (λ i. (E i, t i, s i)) h)
+-- The where clauses of an open impl stay later on.
+pub open-clauses : (c d : Context) (o : Opened) → Grows c d → IsOpen c.trees o
+    → clauses_with d.trees (args_forest d.trees o.locals) o.wheres.items ≡ clauses_with c.trees (args_forest c.trees o.locals) o.wheres.items
+open-clauses c d o g known =
+    let ls = (args-kept c d o.locals g known.0).1 in
+    ap (λ (f : Forest). clauses_with d.trees f o.wheres.items) ls ∙ wheres-kept c d (args_forest c.trees o.locals) o.wheres.items g known.2.fit
 
 -- What is found where the headers are equal, by what their equation left, in a probe that began then and has ended.
 pub found-under : (old began ran new : Evaluator) (env : ParamEnv) (p : Pair) (after : State) → Grows old.context began.context → IsParamEnv old.context.trees env → AreOpen old.context.trees p
     → HaveNoAlias (args_forest old.context.trees p.second.header) (args_forest old.context.trees p.first.header)
     → accepted (judge_of (fixed old)) (state old) (env_forest old.context.trees env) (args_forest old.context.trees p.second.header) (args_forest old.context.trees p.first.header) ≡ Some after
-    → (Leaks (state old).newest_universe after → ⊥) → state began ≡ aside after → fixed new ≡ fixed ran → (x : Specialization) → IsFoundWhereEqual began (env_forest began.context.trees env) (table_of ran) p.second x
-    → IsFoundOfPair old (env_forest old.context.trees env) (table_of new) p x
-found-under old began ran new env p after g e known plain equal kept s f answer.Specializes h =
+    → (Leaks (state old).newest_universe after → ⊥) → IsLater old began → state began ≡ aside after → fixed new ≡ fixed ran → (x : Specialization)
+    → IsFoundWhereEqual began (env_forest began.context.trees env) (sure_of ran) p.second x
+    → IsFoundOfPair old (env_forest old.context.trees env) (sure_of new) p x
+found-under old began ran new env p after g e known plain equal kept l s f answer.Specializes h =
     let E = (env-kept old.context began.context env g e).1 in
-    let t : table_of ran ≡ table_of new = sym (ap (λ (y : Fixed). y.table) f) in
-    let o = p.second in
+    let t : sure_of ran ≡ sure_of new = sym (sure-fixed f) in
+    let w = open-clauses old.context began.context p.second g known.1 in
     record {
       no_alias = plain;
       after = after;
       equal = equal;
       no_leak = kept;
       hold =
-          all-said old.context began.context (env_forest old.context.trees env) (table_of new) (aside after) o g known.1
-          (subst (λ (q : Env × GoalTable Via × State). AllHold q.0 began.context.trees q.1 q.2 (args_forest began.context.trees o.locals) o.wheres.items) (λ i. (E i, t i, s i)) h);
+          hold-by-earlier l (subst (λ (q : Env × GoalTable Via × State × List Tree). HoldBy began q.0 q.1 q.2 [] q.3) (λ i. (E i, t i, s i, w i)) h);
     }
-found-under old began ran new env p after g e known plain equal kept s f answer.Unlike h = h
-found-under old began ran new env p after g e known plain equal kept s f answer.NoInstance h = tt
-found-under old began ran new env p after g e known plain equal kept s f (answer.Unanswered n) h = tt
+found-under old began ran new env p after g e known plain equal kept l s f answer.Unlike h = h
+found-under old began ran new env p after g e known plain equal kept l s f answer.NoInstance h = tt
+found-under old began ran new env p after g e known plain equal kept l s f (answer.Unanswered n) h = tt
 
 -- What is found of two open impls, by those that are declared.
 pub found-here : (old mid now : Evaluator) (a b : ImplId) (p : Pair) (env : Env) (T : GoalTable Via) → Grows old.context mid.context → Grows mid.context now.context → fixed now ≡ fixed old → state now ≡ state mid
@@ -198,7 +199,9 @@ found-here old mid now a b p env T g h f s o alike e answer.Specializes k =
           equal = subst (λ (q : Fixed × State × Forest × Forest). accepted (judge_of q.0) q.1 env q.2 q.3 ≡ Some k.after) (λ i. (f i, u i, x i, y i)) k.equal;
         };
         no_leak = λ l. k.no_leak (subst (λ (n : ℕ). Leaks n k.after) (sym (ap (λ (U : State). U.newest_universe) u ∙ opened-universe (entered S o.i) o.j)) l);
-        hold = all-declared-with c now.context env T (aside k.after) (locals_of (entered S o.i) o.j) o.j p.second (grows-trans c mid.context now.context g h) second k.hold;
+        hold =
+            let w = opened-clauses c now.context (locals_of (entered S o.i) o.j) o.j p.second (grows-trans c mid.context now.context g h) second in
+            hold-by-earlier (later-begun (grows-trans c mid.context now.context g h) f) (subst (HoldBy now env T (aside k.after) []) w k.hold);
       };
     }
 found-here old mid now a b p env T g h f s o alike e answer.Unlike k = absurd k
@@ -207,9 +210,9 @@ found-here old mid now a b p env T g h f s o alike e (answer.Unanswered n) k = t
 
 -- A probe that was open meanwhile, in which nothing was pending at first, changes nothing of it.
 pub found-probed : (old began ran new : Evaluator) (a b : ImplId) → began.context ≡ old.context → fixed began ≡ fixed old → state began ≡ aside (state old) → fixed new ≡ fixed ran
-    → (x : Specialization) → IsSpecializationAt began (state began) (table_of ran) a b x → IsSpecialization old new a b x
+    → (x : Specialization) → IsSpecializationAt began (state began) (sure_of ran) a b x → IsSpecialization old new a b x
 found-probed old began ran new a b cx f s g answer.Specializes h =
-    let t : table_of ran ≡ table_of new = sym (ap (λ (y : Fixed). y.table) g) in
+    let t : sure_of ran ≡ sure_of new = sym (sure-fixed g) in
     let k = h.holds in
     let i = h.i in
     let j = h.j in
@@ -225,7 +228,10 @@ found-probed old began ran new a b cx f s g answer.Specializes h =
         after = k.after;
         instance = subst (λ (q : Fixed × Context × State). IsInstanceBy (judge_of q.0) q.1 q.2 k.env i j k.after) (λ z. (f z, cx z, s z)) k.instance;
         no_leak = λ l. k.no_leak (subst (λ (U : State). Leaks (entered U i).newest_universe k.after) (sym s) l);
-        hold = subst (λ (q : Context × GoalTable Via × State). AllHold k.env q.0.trees q.1 (aside k.after) (locals_of (entered q.2 i) j) j.wheres) (λ z. (cx z, t z, s z)) k.hold;
+        hold =
+            let l = later-begun (subst (Grows old.context) (sym cx) (grows-refl old.context)) f in
+            hold-by-earlier l
+            (subst (λ (q : Context × GoalTable Via × State). HoldBy began k.env q.1 (aside k.after) [] (clauses_with q.0.trees (locals_of (entered q.2 i) j) j.wheres)) (λ z. (cx z, t z, s z)) k.hold);
       };
     }
 found-probed old began ran new a b cx f s g answer.Unlike h = λ i j first second alike. subst (λ (c : Context). IfDeclared c a b (λ x y. ⊥)) cx h i j first second

@@ -13,17 +13,22 @@ use Rattle.ir_trees.specs.Instantiation.Folding.{substituted_tree}
 use Rattle.ir_trees.specs.Syntax.Trees.{Forest, none, Tree}
 use Rattle.ir_trees.specs.Syntax.Words.{ClauseListFits, IsArgs, IsParamEnv, args_forest, clause_tree, env_forest}
 use Rattle.ir_trees.proofs.Growth.Kept.{args-kept, grows-trans}
+use Rattle.candidate_eval.specs.Derivations.ImplRules.{TraitGoal}
 use Rattle.candidate_eval.specs.Dynamic.ObjectRequirements.{arguments_of, trait_said}
 use Rattle.candidate_eval.specs.Interface.Evaluators.{accepted}
 use Rattle.candidate_eval.specs.Judges.States.{Env, State, resolved_tree}
 use Rattle.candidate_eval.proofs.Dynamic.Objects.{env-kept}
 use Rattle.candidate_assembly.specs.Goals.TraitGoals.{trait_goal}
 use Rattle.candidate_rounds.specs.Evaluators.Interface.{Fixed, fixed, judge_of}
-use Rattle.candidate_rounds.specs.Evaluators.Known.{Evaluator, state, table_of}
+use Rattle.candidate_rounds.specs.Evaluators.Known.{Evaluator, state, sure_of, table_of}
 use Rattle.candidate_rounds.specs.Evaluators.Leaking.{Leaks}
-use Rattle.candidate_rounds.specs.Table.Goals.{Via}
-use Rattle.rounds_judge.specs.Table.GoalTable.{GoalTable}
-use Rattle.overlaps.specs.Answered.{is_outlives}
+use Rattle.candidate_rounds.specs.Table.Goals.{Via, unless_noted}
+use Rattle.candidate_rounds.specs.Table.Running.{StaysBesideTable}
+use Rattle.candidate_rounds.proofs.Table.Noted.{sure-fixed}
+use Rattle.rounds_judge.specs.Table.GoalTable.{GoalTable, verdict_in}
+use Rattle.rounds_judge.specs.Table.Keys.{key_at}
+use Rattle.rounds_judge.specs.Table.Verdicts.{Verdict}
+use Rattle.overlaps.specs.Answered.{IsPlainYes, is_outlives}
 use Rattle.overlaps.specs.Apart.{OfDeclared, aside, opened}
 use Rattle.overlaps.specs.Instance.{first_header, second_header, unless_leaking}
 use Rattle.overlaps.specs.Opening.{AreOpened, IsOpenedOf}
@@ -33,10 +38,38 @@ use Rattle.overlaps.specs.declared.opening.Opened.{Opened}
 use Rattle.overlaps.specs.declared.opening.Pair.{Pair}
 use Rattle.overlaps.specs.declared.overlap.Overlap.{Overlap}
 use Rattle.overlaps.specs.declared.overlap.Overlap.TheVariants as O
-use Rattle.overlaps.proofs.PureFolder.{StaysAsAsked}
+use Rattle.overlaps.proofs.PureFolder.{StaysSure}
 use Rattle.overlaps.proofs.AskedClauses.{AreClausesOf, clauses-kept}
 use Rattle.overlaps.proofs.Refusing.{got-fits, instance-kept}
 use Rattle.overlaps.proofs.Universes.{both-universe}
+
+-- the goal of a predicate, by a later context
+pub goal-later : (old mid : Evaluator) (env : ParamEnv) (p : TraitPredicate) → Grows old.context mid.context → IsParamEnv old.context.trees env → IsArgs old.context.trees p.trait_ref.args
+    → trait_goal mid.context.trees env p ≡ trait_goal old.context.trees env p
+goal-later old mid env p g e a =
+    let x = (env-kept old.context mid.context env g e).1 in
+    let y = (args-kept old.context mid.context p.trait_ref.args g a).1 in
+    ap (λ (q : Env × Forest). let z : TraitGoal = record { env = q.0; reference = record { trait = p.trait_ref.def_id.0; arguments = q.1 }; polarity = p.polarity } in z) (λ i. (x i, y i))
+
+-- What is sure of a goal, by what was noted of it at a later evaluator.
+pub sure-there : (old mid : Evaluator) (env : ParamEnv) (p : TraitPredicate) (noted : Bool) → StaysBesideTable old mid → table_of mid ≡ table_of old → sure_of mid ≡ sure_of old → IsParamEnv old.context.trees env
+    → IsArgs old.context.trees p.trait_ref.args
+    → verdict_in (sure_of mid) (key_at (state mid) (trait_goal mid.context.trees env p)) ≡ unless_noted noted (verdict_in (table_of mid) (key_at (state mid) (trait_goal mid.context.trees env p)))
+    → verdict_in (sure_of old) (key_at (state old) (trait_goal old.context.trees env p)) ≡ unless_noted noted (verdict_in (table_of old) (key_at (state old) (trait_goal old.context.trees env p)))
+sure-there old mid env p noted stays t u e a h =
+    let s = stays.state_same in
+    let g = goal-later old mid env p stays.grows e a in
+    subst (λ (q : GoalTable Via × GoalTable Via × State × TraitGoal). verdict_in q.0 (key_at q.2 q.3) ≡ unless_noted noted (verdict_in q.1 (key_at q.2 q.3))) (λ i. (u i, t i, s i, g i)) h
+
+pub plain-there : (v w : Option (Verdict Via)) (noted : Bool) → noted ≡ false → v ≡ unless_noted noted w → IsPlainYes w → IsPlainYes v
+plain-there v w noted isnt is plain = subst IsPlainYes (sym (is ∙ ap (λ b. unless_noted b w) isnt)) plain
+
+pub noted-not : (v w : Option (Verdict Via)) (noted : Bool) → noted ≡ true → v ≡ unless_noted noted w → IsPlainYes v → ⊥
+noted-not v w noted so is plain = subst IsPlainYes (is ∙ ap (λ b. unless_noted b w) so) plain
+
+pub no-then : (b : Bool) → not b ≡ true → b ≡ false
+no-then false e = refl
+no-then true e = absurd cc
 
 pub of-not : (b : Bool) → not b ≡ false → b ≡ true
 of-not true e = refl
@@ -90,14 +123,14 @@ one-earlier c d T S locals xs w same h = (h.0, at-earlier none c d T S locals xs
 -- A clause with all values put in.
 
 pub clause-says-else : (old : Evaluator) (f : Env) (t u : Tree) → u ≡ resolved_tree (state old) t → is_outlives u.head ≡ false → trait_said u.head ≡ None
-    → HoldsNot f old.context (table_of old) (state old) (resolved_tree (state old) t)
-clause-says-else old f t u is n said = subst (HoldsNot f old.context (table_of old) (state old)) is (says_else n said)
+    → HoldsNot f old.context (sure_of old) (state old) (resolved_tree (state old) t)
+clause-says-else old f t u is n said = subst (HoldsNot f old.context (sure_of old) (state old)) is (says_else n said)
 
-pub clause-unanswered : (old mid : Evaluator) (env : ParamEnv) (t : Tree) (x : Clause) (p : TraitPredicate) → StaysAsAsked old mid → IsParamEnv old.context.trees env → clause_tree mid.context.trees x ≡ resolved_tree (state old) t
+pub clause-unanswered : (old mid : Evaluator) (env : ParamEnv) (t : Tree) (x : Clause) (p : TraitPredicate) → StaysSure old mid → IsParamEnv old.context.trees env → clause_tree mid.context.trees x ≡ resolved_tree (state old) t
     → trait_said (clause_tree mid.context.trees x).head ≡ Some (p.trait_ref.def_id, p.polarity) → arguments_of (clause_tree mid.context.trees x) ≡ args_forest mid.context.trees p.trait_ref.args
-    → IsUnanswered mid.context (table_of mid) (state mid) (trait_goal mid.context.trees env p) → HoldsNot (env_forest old.context.trees env) old.context (table_of old) (state old) (resolved_tree (state old) t)
+    → IsUnanswered mid.context (sure_of mid) (state mid) (trait_goal mid.context.trees env p) → HoldsNot (env_forest old.context.trees env) old.context (sure_of old) (state old) (resolved_tree (state old) t)
 clause-unanswered old mid env t x p kept under is said fits h =
-    let g = kept.table in
+    let g = kept.sure in
     let s = kept.stays.state_same in
     unanswered (trait_goal mid.context.trees env p)
     (record {
@@ -105,16 +138,16 @@ clause-unanswered old mid env t x p kept under is said fits h =
       arguments = sym fits ∙ ap arguments_of is;
       under = (env-kept old.context mid.context env kept.stays.grows under).1;
     })
-    (unanswered-earlier old.context mid.context (table_of old) (state old) (trait_goal mid.context.trees env p) kept.stays.grows
+    (unanswered-earlier old.context mid.context (sure_of old) (state old) (trait_goal mid.context.trees env p) kept.stays.grows
     (subst (λ (q : GoalTable Via × State). IsUnanswered mid.context q.0 q.1 (trait_goal mid.context.trees env p)) (λ i. (g i, s i)) h))
 
 -- One of several, said of a later evaluator by the same table.
-pub one-not : (old now : Evaluator) (env : ParamEnv) (locals : Args) (xs : List Clause) (n : ℕ) (x : Clause) → StaysAsAsked old now → IsParamEnv old.context.trees env → IsArgs old.context.trees locals
+pub one-not : (old now : Evaluator) (env : ParamEnv) (locals : Args) (xs : List Clause) (n : ℕ) (x : Clause) → StaysSure old now → IsParamEnv old.context.trees env → IsArgs old.context.trees locals
     → ClauseListFits old.context.trees xs → slice_get xs n ≡ Some x
-    → HoldsNot (env_forest now.context.trees env) now.context (table_of now) (state now) (clause_at now.context (state now) (args_forest now.context.trees locals) x)
-    → HoldsNotAt (env_forest old.context.trees env) old.context (table_of old) (state old) (args_forest old.context.trees locals) xs n
+    → HoldsNot (env_forest now.context.trees env) now.context (sure_of now) (state now) (clause_at now.context (state now) (args_forest now.context.trees locals) x)
+    → HoldsNotAt (env_forest old.context.trees env) old.context (sure_of old) (state old) (args_forest old.context.trees locals) xs n
 one-not old now env locals xs n x kept under a fit is h =
-    let g = kept.table in
+    let g = kept.sure in
     let s = kept.stays.state_same in
     let e = instance-kept old.context now.context locals x kept.stays.grows a (got-fits old.context.trees xs n x fit is) in
     let f = (env-kept old.context now.context env kept.stays.grows under).1 in
@@ -122,7 +155,7 @@ one-not old now env locals xs n x kept under a fit is h =
       clause = x;
       is = is;
       why =
-          holds-not-earlier (env_forest old.context.trees env) old.context now.context (table_of old) (state old) (clause_at old.context (state old) (args_forest old.context.trees locals) x) kept.stays.grows
+          holds-not-earlier (env_forest old.context.trees env) old.context now.context (sure_of old) (state old) (clause_at old.context (state old) (args_forest old.context.trees locals) x) kept.stays.grows
           (subst (λ (q : Env × GoalTable Via × State × Tree). HoldsNot q.0 now.context q.1 q.2 (resolved_tree q.2 q.3)) (λ i. (f i, g i, s i, e i)) h);
     }
 
@@ -152,13 +185,13 @@ where-equal-earlier c d T S p w known (inr h) = inr (either-earlier c d T S p w 
 -- In a probe that began where the headers were made equal, and that has ended.
 pub pair-uncertain : (old began ran new : Evaluator) (p : Pair) (after : State) → Grows old.context began.context → AreOpen old.context.trees p → headers_equated old p ≡ Some after
     → state began ≡ aside after → fixed new ≡ fixed ran → (leaks : Bool) → (leaks ≡ true → Leaks (state old).newest_universe after)
-    → (leaks ≡ true) ⊎ IsUncertainWhereEqual began.context (table_of ran) (state began) p → PairIsUncertain old (table_of new) p
+    → (leaks ≡ true) ⊎ IsUncertainWhereEqual began.context (sure_of ran) (state began) p → PairIsUncertain old (sure_of new) p
 pair-uncertain old began ran new p after w known equal s f leaks leak (inl e) = pair_leaks after equal (leak e)
 pair-uncertain old began ran new p after w known equal s f leaks leak (inr h) =
-    let u : table_of ran ≡ table_of new = sym (ap (λ (x : Fixed). x.table) f) in
-    at (where-equal-earlier old.context began.context (table_of new) (aside after) p w known (subst (λ (q : State × GoalTable Via). IsUncertainWhereEqual began.context q.1 q.0 p) (λ i. (s i, u i)) h))
+    let u : sure_of ran ≡ sure_of new = sym (sure-fixed f) in
+    at (where-equal-earlier old.context began.context (sure_of new) (aside after) p w known (subst (λ (q : State × GoalTable Via). IsUncertainWhereEqual began.context q.1 q.0 p) (λ i. (s i, u i)) h))
   where
-    at : IsUncertainWhereEqual old.context (table_of new) (aside after) p → PairIsUncertain old (table_of new) p
+    at : IsUncertainWhereEqual old.context (sure_of new) (aside after) p → PairIsUncertain old (sure_of new) p
     at (inl a) = pair_has_alias a
     at (inr e) = pair_has_clause after equal e
 
@@ -200,7 +233,7 @@ uncertain-declared old mid a b p U w same o h = record { i = o.i; j = o.j; first
 
 -- A probe that was open meanwhile, in which nothing was pending at first, changes nothing of it.
 pub uncertain-probed : (old began ran new : Evaluator) (S : State) (a b : ImplId) → began.context ≡ old.context → fixed began ≡ fixed old → state began ≡ S → fixed new ≡ fixed ran
-    → OfDeclared began.context a b (ImplsAreUncertain began (state began) (table_of ran)) → OfDeclared old.context a b (ImplsAreUncertain old S (table_of new))
+    → OfDeclared began.context a b (ImplsAreUncertain began (state began) (sure_of ran)) → OfDeclared old.context a b (ImplsAreUncertain old S (sure_of new))
 uncertain-probed old began ran new S a b cx f s g h = record {
   i = h.i;
   j = h.j;
@@ -209,10 +242,10 @@ uncertain-probed old began ran new S a b cx f s g h = record {
   holds = at h.holds;
 }
   where
-    u : table_of ran ≡ table_of new
-    u = sym (ap (λ (x : Fixed). x.table) g)
+    u : sure_of ran ≡ sure_of new
+    u = sym (sure-fixed g)
 
-    at : ImplsAreUncertain began (state began) (table_of ran) h.i h.j → ImplsAreUncertain old S (table_of new) h.i h.j
+    at : ImplsAreUncertain began (state began) (sure_of ran) h.i h.j → ImplsAreUncertain old S (sure_of new) h.i h.j
     at (impls_have_alias alias) = impls_have_alias (subst (λ (q : Context × State). HeadersHaveAlias (first_header q.0 q.1 h.i h.j) (second_header q.0 q.1 h.i h.j)) (λ i. (cx i, s i)) alias)
     at (impls_leak after e l) =
         impls_leak after (subst (λ (q : Fixed × Context × State). MakesHeadersEqual (judge_of q.0) q.1 q.2 h.i h.j after) (λ i. (f i, cx i, s i)) e) (subst (λ (W : State). Leaks W.newest_universe after) s l)

@@ -12,6 +12,7 @@ use Rattle.candidate_eval.specs.Derivations.ImplRules.{TraitGoal}
 use Rattle.candidate_eval.specs.Dynamic.ObjectRequirements.{arguments_of, trait_said}
 use Rattle.candidate_eval.specs.Judges.States.{Env, State, resolved_tree}
 use Rattle.candidate_eval.specs.Outcomes.Responses.{has_only_region_constraints}
+use Rattle.candidate_rounds.specs.Evaluators.Leaking.{ResponseLeaks}
 use Rattle.candidate_rounds.specs.Table.Goals.{Via}
 use Rattle.rounds_judge.specs.Table.GoalTable.{GoalTable, verdict_in}
 use Rattle.rounds_judge.specs.Table.Keys.{key_at}
@@ -23,6 +24,11 @@ use Rattle.overlaps.specs.declared.opening.Pair.{Pair}
 abbrev pub IsPlainYes : Option (Verdict Via) → Type 0
 IsPlainYes (Some (Yes r w)) = has_only_region_constraints r ≡ true
 IsPlainYes _ = ⊥
+
+-- Where it is a Yes, what that asks of regions holds for every placeholder.
+abbrev pub HoldsForAll : Option (Verdict Via) → Type 0
+HoldsForAll (Some (Yes r w)) = ResponseLeaks r → ⊥
+HoldsForAll _ = Unit {0}
 
 -- it says what outlives what
 abbrev pub is_outlives : Head → Bool

@@ -10,7 +10,7 @@ use Rattle.candidate_eval.specs.Interface.Evaluators.{accepted}
 use Rattle.candidate_eval.specs.Judges.States.{Judge, State, resolved}
 use Rattle.candidate_assembly.specs.Answers.KnownImpls.{header_at}
 use Rattle.candidate_rounds.specs.Evaluators.Interface.{fixed, judge_of}
-use Rattle.candidate_rounds.specs.Evaluators.Known.{Evaluator, listing, state, table_of}
+use Rattle.candidate_rounds.specs.Evaluators.Known.{Evaluator, listing, state, sure_of}
 use Rattle.candidate_rounds.specs.Evaluators.Leaking.{Leaks}
 use Rattle.candidate_rounds.specs.Table.Goals.{Via}
 use Rattle.rounds_judge.specs.Equations.Opening.{are_open}
@@ -53,7 +53,7 @@ AreOneAt S f g = HaveNoAlias f g → erase (resolved S f) ≡ erase (resolved S 
 -- both holds by the table that is left, and no alias stands in the headers.
 pub record IsInstanceWhereEqual (old new : Evaluator) (S : State) (p : Pair) (x : CommonInstance) : Type 0 where
   pub is : IsReferenceAt S p.first.def_id (args_forest old.context.trees p.first.header) new.context.trees x.trait_ref
-  pub hold : x.is_certain ≡ true → BothHold old.context.trees (table_of new) S p
+  pub hold : x.is_certain ≡ true → BothHold old.context.trees (sure_of new) S p
   pub no_alias : x.is_certain ≡ true → HaveNoAlias (args_forest old.context.trees p.first.header) (args_forest old.context.trees p.second.header)
 
 -- An answer, told whether the equation of two headers leaks a region: then no instance is certain.
@@ -101,5 +101,5 @@ pub record IsCommonInstance (old : Evaluator) (S : State) (new : Evaluator) (x :
   pub equal : CountAsEqual (are_open (listing old) (opened (opened S i) j)) (equation_of (judge_of (fixed old)) old.context S i j) (opened (opened S i) j) (first_header old.context S i j) (second_header old.context S i j) after
   pub one : AreOneAt after (first_header old.context S i j) (second_header old.context S i j)
   pub is : IsReferenceAt (aside after) i.trait_ref.def_id (first_header old.context S i j) new.context.trees x.trait_ref
-  pub certain : x.is_certain ≡ true → BothImplsHold old.context (table_of new) S (aside after) i j
+  pub certain : x.is_certain ≡ true → BothImplsHold old.context (sure_of new) S (aside after) i j
   pub no_leak : x.is_certain ≡ true → Leaks S.newest_universe after → ⊥

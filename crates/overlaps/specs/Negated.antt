@@ -25,7 +25,7 @@ use Rattle.candidate_rounds.specs.Evaluators.Leaking.{Leaks}
 use Rattle.candidate_rounds.specs.Table.Goals.{Via}
 use Rattle.rounds_judge.specs.Table.GoalTable.{GoalTable, verdict_in}
 use Rattle.rounds_judge.specs.Table.Keys.{key_at}
-use Rattle.overlaps.specs.Answered.{IsPlainYes}
+use Rattle.overlaps.specs.Answered.{HoldsForAll, IsPlainYes}
 use Rattle.overlaps.specs.Apart.{OfDeclared, aside, entered, opened}
 use Rattle.overlaps.specs.Refused.{MakesHeadersEqual, clause_at, headers_equated, locals_of}
 use Rattle.overlaps.specs.Specialized.{IsEnvironmentOf}
@@ -39,13 +39,14 @@ turned Positive = Negative
 turned Negative = Positive
 
 -- The opposite of what the clause says of a trait, asked at the state under that environment, has a Yes in the table which says nothing of any
--- variable.
+-- variable, and of regions nothing but what holds for every placeholder.
 pub record IsDenied (env : Env) (T : GoalTable Via) (S : State) (clause : Tree) : Type 0 where
   pub goal : TraitGoal
   pub says : trait_said clause.head ≡ Some (record { 0 = goal.reference.trait }, turned goal.polarity)
   pub arguments : goal.reference.arguments ≡ arguments_of clause
   pub under : goal.env ≡ env
   pub answered : IsPlainYes (verdict_in T (key_at S goal))
+  pub for_all : HoldsForAll (verdict_in T (key_at S goal))
 
 -- The same of one of several clauses.
 pub record OneIsDenied (env : Env) (T : GoalTable Via) (S : State) (clauses : List Tree) : Type 0 where

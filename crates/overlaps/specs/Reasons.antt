@@ -23,6 +23,7 @@ use Rattle.candidate_assembly.specs.Answers.KnownImpls.{header_at}
 use Rattle.candidate_rounds.specs.Calls.Standing.{stands_at}
 use Rattle.candidate_rounds.specs.Evaluators.Interface.{Fixed, fixed, judge_of}
 use Rattle.candidate_rounds.specs.Evaluators.Known.{Evaluator, listing, state}
+use Rattle.candidate_rounds.specs.Table.Running.{judged_by}
 use Rattle.candidate_rounds.specs.Table.Goals.{Via}
 use Rattle.rounds_judge.specs.Equations.Opening.{are_open}
 use Rattle.rounds_judge.specs.Table.GoalTable.{verdict_in}
@@ -78,11 +79,11 @@ pub record Here : Type 0 where
 
 -- where an evaluator stands
 abbrev pub here_at : Evaluator → ParamEnv → Here
-here_at r env = record { context = r.context; fixed = fixed r; state = state r; env = env_forest r.context.trees env }
+here_at r env = record { context = r.context; fixed = judged_by r; state = state r; env = env_forest r.context.trees env }
 
 -- what the first evaluator declares and the last one's table has, at that state, without an environment
 abbrev pub here_after : Evaluator → Evaluator → State → Here
-here_after old new S = record { context = old.context; fixed = fixed new; state = S; env = none }
+here_after old new S = record { context = old.context; fixed = judged_by new; state = S; env = none }
 
 -- That is the cause, by what the table has for the goal.
 abbrev pub IsCauseByVerdict : Here → TraitGoal → Option (Verdict Via) → Cause → Type 0

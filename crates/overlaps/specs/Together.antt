@@ -28,12 +28,12 @@ use Rattle.candidate_eval.specs.declared.eval.certainty.Certainty.TheVariants.{Y
 use Rattle.candidate_eval.specs.declared.eval.response.CanonicalResponse.{CanonicalResponse}
 use Rattle.candidate_eval.specs.declared.eval.variable.VariableKind.TheVariants.{Term}
 use Rattle.candidate_eval.specs.Interface.Evaluators.{HasTree, IsGoal, accepted, pending_of, pendings_of}
-use Rattle.candidate_eval.specs.Judges.States.{Pending, State, resolved_tree, variable, with_pending}
+use Rattle.candidate_eval.specs.Judges.States.{Env, Pending, State, resolved_tree, variable, with_pending}
 use Rattle.candidate_eval.specs.Outcomes.ResponseTrees.{response_of}
 use Rattle.candidate_eval.specs.Outcomes.Responses.{Response}
 use Rattle.candidate_assembly.specs.Rules.Opaques.{with_type_for}
 use Rattle.candidate_rounds.specs.Evaluators.Interface.{fixed, judge_of}
-use Rattle.candidate_rounds.specs.Evaluators.Known.{Each, Evaluator, listing, state, table_of}
+use Rattle.candidate_rounds.specs.Evaluators.Known.{Each, Evaluator, listing, state, sure_of, table_of}
 use Rattle.candidate_rounds.specs.Table.Goals.{Via}
 use Rattle.candidate_rounds.specs.Table.Normalized.{IsNormalized}
 use Rattle.candidate_rounds.specs.Table.Normalizing.{goal_of_trait}
@@ -108,26 +108,30 @@ pub record HasYes (T : GoalTable Via) (k : Key) : Type 0 where
 abbrev pub IsOfProjection : Context → ParamEnv → AliasTy → Type 0
 IsOfProjection c env alias = let g = goal_of_trait c env alias in IsOfInstances c (record { 0 = g.reference.trait }) g.reference.arguments
 
--- At the state a sure answer says what the projection is and its instances are, asked of an evaluator that comes after, without an environment, and whose
--- table has a yes for the goal that the projection's trait holds; and this is known once what it says is given, with the variable that comes next for
+-- At the state a sure answer says what the projection is and its instances are, asked of an evaluator that comes after, under that environment, and whose
+-- table has a yes for the goal that the projection's trait holds, which rests on no region that leaks; and this is known once what it says is given, with the variable that comes next for
 -- the type: nothing, where that can't be.
-pub record IsNormalAt (r : Evaluator) (S : State) (projection : Tree) (known : Option State) : Type 0 where
+pub record IsNormalUnder (r : Evaluator) (S : State) (e : Env) (projection : Tree) (known : Option State) : Type 0 where
   pub by : Evaluator
   pub later : IsLater r by
   pub stands : state by ≡ S
   pub env : ParamEnv
-  pub no_env : env_forest by.context.trees env ≡ none
+  pub under : env_forest by.context.trees env ≡ e
   pub alias : AliasTy
   pub is : kind_tree by.context.trees (kind.Alias alias) ≡ projection
   pub rounds : ℕ
   pub table : GoalTable Via
   pub trees : List Tree
   pub response : CanonicalResponse
-  pub trait_holds : HasYes (table_of by) (key_at S (goal_of_trait by.context env alias))
+  pub trait_holds : HasYes (sure_of by) (key_at S (goal_of_trait by.context env alias))
   pub comes : IsNormalized trees by env alias rounds table (Ok (Some response))
   pub sure : response.certainty ≡ Yes
   pub of_instances : IsOfProjection by.context env alias
   pub gives : with_normal (listing by) S (goal_of_trait by.context env alias) (response_of trees response) ≡ known
+
+-- the same without an environment
+abbrev pub IsNormalAt : Evaluator → State → Tree → Option State → Type 0
+IsNormalAt r S projection known = IsNormalUnder r S none projection known
 
 -- From the state on the goals can't hold together.
 pub data CannotHold (r : Evaluator) : State → List Pending → Type 0 where
@@ -186,12 +190,12 @@ abbrev pub IsTried : Evaluator → Evaluator → Obligation → List Obligation 
 IsTried old new goal before after true = (ps : List Pending) → Contains ps (pending_at old goal) → CannotHold old (state old) ps
 IsTried old new goal before after false = AreLeft old new goal before after
 
--- What normalising a projection says of it, and leaves.
-abbrev pub IsProjectedAs : Evaluator → Evaluator → Tree → ProjectionType → Type 0
-IsProjectedAs old new projection P.Open = state new ≡ state old
-IsProjectedAs old new projection P.Impossible = IsNormalAt old (state old) projection None
-IsProjectedAs old new projection (P.Type type) =
-    IsNormalAt old (state old) projection (Some (state new)) × HasTree new.context.trees type (next_type (state old))
+-- What normalising a projection under an environment says of it, and leaves.
+abbrev pub IsProjectedAs : Evaluator → Evaluator → Env → Tree → ProjectionType → Type 0
+IsProjectedAs old new e projection P.Open = state new ≡ state old
+IsProjectedAs old new e projection P.Impossible = IsNormalUnder old (state old) e projection None
+IsProjectedAs old new e projection (P.Type type) =
+    IsNormalUnder old (state old) e projection (Some (state new)) × HasTree new.context.trees type (next_type (state old))
 
 -- That response came of normalising the projection in some rounds, where the state stayed and the goal of its trait holds.
 pub record CameOf (old new : Evaluator) (env : ParamEnv) (alias : AliasTy) (response : CanonicalResponse) : Type 0 where
@@ -199,7 +203,7 @@ pub record CameOf (old new : Evaluator) (env : ParamEnv) (alias : AliasTy) (resp
   pub later : IsLater old by
   pub stands : state by ≡ state old
   pub rounds : ℕ
-  pub trait_holds : HasYes (table_of by) (key_at (state by) (goal_of_trait by.context env alias))
+  pub trait_holds : HasYes (sure_of by) (key_at (state by) (goal_of_trait by.context env alias))
   pub comes : IsNormalized new.context.trees by env alias rounds (table_of new) (Ok (Some response))
   pub of_instances : IsOfProjection by.context env alias
 

@@ -8,7 +8,7 @@ ghost use Rattle.ir_trees.specs.Instantiation.Owned.{ClausesAreOwned};
 ghost use Rattle.ir_trees.specs.Syntax.Trees.{none, tree_holds};
 ghost use Rattle.ir_trees.specs.Syntax.Words.{IsArgs, IsClause, IsParamEnv, args_forest, clause_tree, env_forest};
 ghost use Rattle.candidate_assembly.specs.Goals.TraitGoals.{trait_goal};
-ghost use Rattle.candidate_rounds.specs.Evaluators.Known.{state, table_of};
+ghost use Rattle.candidate_rounds.specs.Evaluators.Known.{state, sure_of, table_of};
 ghost use Rattle.candidate_rounds.specs.Table.Goals.{IsVerdict, verdict_seen};
 ghost use Rattle.candidate_rounds.specs.Table.Running.{StaysBesideTable};
 ghost use Rattle.rounds_judge.specs.Table.GoalTable.{verdict_in};
@@ -58,8 +58,8 @@ fn is_plain_yes(cx: &Cx, verdict: &Option<Verdict>) -> bool
     }
 }
 
-/// Whether the table has a Yes for the goal which says nothing of any variable, and may not rest on an impl for a part of the types with a
-/// head.
+/// Whether the table has a Yes for the goal which says nothing of any variable, rests on no region that leaks, and may not rest on an impl for
+/// a part of the types with a head.
 pub(crate) fn is_predicate_answered(
     alloc: Global,
     rounds: &mut Rounds,
@@ -71,8 +71,9 @@ pub(crate) fn is_predicate_answered(
     requires fit { ArgumentsFit rounds.old.context predicate.trait_ref }
     ensures stays { StaysBesideTable rounds.old rounds.new }
     ensures table { table_of rounds.new ≡ table_of rounds.old }
-    ensures answered { let r = rounds.old in IfOk result (λ b. b ≡ true → IsPlainYes (verdict_in (table_of r) (key_at (state r) (trait_goal r.context.trees env predicate)))) }
-    ensures unanswered { let r = rounds.old in IfOk result (λ b. b ≡ false → IsUnanswered r.context (table_of r) (state r) (trait_goal r.context.trees env predicate)) }
+    ensures sure { sure_of rounds.new ≡ sure_of rounds.old }
+    ensures answered { let r = rounds.old in IfOk result (λ b. b ≡ true → IsPlainYes (verdict_in (sure_of r) (key_at (state r) (trait_goal r.context.trees env predicate)))) }
+    ensures unanswered { let r = rounds.old in IfOk result (λ b. b ≡ false → IsUnanswered r.context (sure_of r) (state r) (trait_goal r.context.trees env predicate)) }
     ensures cause { IfErr result (IsOverlapStop rounds.old rounds.new) }
 {
     if !rounds.stands_here(alloc, env, predicate) {
@@ -80,6 +81,10 @@ pub(crate) fn is_predicate_answered(
     }
     let verdict = rounds.entry(alloc, env, predicate)?;
     if !is_plain_yes(rounds.cx(), &verdict) {
+        return Ok(false);
+    }
+    let leaks = rounds.entry_leaks(alloc, env, predicate)?;
+    if leaks {
         return Ok(false);
     }
     Ok(!may_rest_on_part(alloc, rounds.cx(), predicate.trait_ref.def_id)?)
@@ -100,8 +105,9 @@ fn is_clause_answered(
     requires there { tree_holds (lacks_argument (args_forest rounds.old.context.trees locals)) (clause_tree rounds.old.context.trees clause) ≡ false }
     ensures stays { StaysBesideTable rounds.old rounds.new }
     ensures table { table_of rounds.new ≡ table_of rounds.old }
-    ensures holds { let r = rounds.old in let ts = r.context.trees in IfOk result (λ b. b ≡ true → HoldsWith (env_forest ts env) ts (table_of r) (state r) (args_forest ts locals) clause) }
-    ensures uncertain { let r = rounds.old in let ts = r.context.trees in IfOk result (λ b. b ≡ false → HoldsNotWith (env_forest ts env) r.context (table_of r) (state r) (args_forest ts locals) clause) }
+    ensures sure { sure_of rounds.new ≡ sure_of rounds.old }
+    ensures holds { let r = rounds.old in let ts = r.context.trees in IfOk result (λ b. b ≡ true → HoldsWith (env_forest ts env) ts (sure_of r) (state r) (args_forest ts locals) clause) }
+    ensures uncertain { let r = rounds.old in let ts = r.context.trees in IfOk result (λ b. b ≡ false → HoldsNotWith (env_forest ts env) r.context (sure_of r) (state r) (args_forest ts locals) clause) }
     ensures cause { IfErr result (IsOverlapStop rounds.old rounds.new) }
 {
     let clause = substitute(alloc, rounds, clause, locals)?;
@@ -128,8 +134,9 @@ pub(crate) fn first_unanswered(
     requires clauses { ClausesAreOwned rounds.old.context.trees (args_forest rounds.old.context.trees locals) clauses.now }
     ensures stays { StaysBesideTable rounds.old rounds.new }
     ensures table { table_of rounds.new ≡ table_of rounds.old }
-    ensures hold { let r = rounds.old in let ts = r.context.trees in IfOk result (λ o. o ≡ None → AllHold (env_forest ts env) ts (table_of r) (state r) (args_forest ts locals) clauses.now) }
-    ensures uncertain { let r = rounds.old in let ts = r.context.trees in IfOk result (λ o. IfSome o (λ n. HoldsNotAt (env_forest ts env) r.context (table_of r) (state r) (args_forest ts locals) clauses.now n)) }
+    ensures sure { sure_of rounds.new ≡ sure_of rounds.old }
+    ensures hold { let r = rounds.old in let ts = r.context.trees in IfOk result (λ o. o ≡ None → AllHold (env_forest ts env) ts (sure_of r) (state r) (args_forest ts locals) clauses.now) }
+    ensures uncertain { let r = rounds.old in let ts = r.context.trees in IfOk result (λ o. IfSome o (λ n. HoldsNotAt (env_forest ts env) r.context (sure_of r) (state r) (args_forest ts locals) clauses.now n)) }
     ensures cause { IfErr result (IsOverlapStop rounds.old rounds.new) }
 {
     for number in 0..clauses.len() {
@@ -152,8 +159,9 @@ fn is_impl_answered(
     requires open { IsOpen rounds.old.context.trees of.now }
     ensures stays { StaysBesideTable rounds.old rounds.new }
     ensures table { table_of rounds.new ≡ table_of rounds.old }
-    ensures hold { let r = rounds.old in IfOk result (λ b. b ≡ true → ImplHolds r.context.trees (table_of r) (state r) of.now) }
-    ensures uncertain { let r = rounds.old in IfOk result (λ b. b ≡ false → ImplHoldsNot r.context (table_of r) (state r) of.now) }
+    ensures sure { sure_of rounds.new ≡ sure_of rounds.old }
+    ensures hold { let r = rounds.old in IfOk result (λ b. b ≡ true → ImplHolds r.context.trees (sure_of r) (state r) of.now) }
+    ensures uncertain { let r = rounds.old in IfOk result (λ b. b ≡ false → ImplHoldsNot r.context (sure_of r) (state r) of.now) }
     ensures cause { IfErr result (IsOverlapStop rounds.old rounds.new) }
 {
     let open = first_unanswered(alloc, rounds, env, of.wheres.as_slice(), of.locals)?;
@@ -175,8 +183,9 @@ pub(crate) fn are_answered(
     requires pair { AreOpen rounds.old.context.trees pair.now }
     ensures stays { StaysBesideTable rounds.old rounds.new }
     ensures table { table_of rounds.new ≡ table_of rounds.old }
-    ensures hold { let r = rounds.old in IfOk result (λ b. b ≡ true → BothHold r.context.trees (table_of r) (state r) pair.now) }
-    ensures uncertain { let r = rounds.old in IfOk result (λ b. b ≡ false → EitherHoldsNot r.context (table_of r) (state r) pair.now) }
+    ensures sure { sure_of rounds.new ≡ sure_of rounds.old }
+    ensures hold { let r = rounds.old in IfOk result (λ b. b ≡ true → BothHold r.context.trees (sure_of r) (state r) pair.now) }
+    ensures uncertain { let r = rounds.old in IfOk result (λ b. b ≡ false → EitherHoldsNot r.context (sure_of r) (state r) pair.now) }
     ensures cause { IfErr result (IsOverlapStop rounds.old rounds.new) }
 {
     if !is_impl_answered(alloc, rounds, env, &pair.first)? {

@@ -2,7 +2,7 @@
 
 ghost use Rattle.std.specs.Prelude.{◌≡◌, IfErr, IfOk};
 ghost use Rattle.ir_trees.specs.Syntax.Words.{IsArgs, args_forest};
-ghost use Rattle.candidate_rounds.specs.Evaluators.Known.{state, table_of};
+ghost use Rattle.candidate_rounds.specs.Evaluators.Known.{state, sure_of, table_of};
 ghost use Rattle.candidate_rounds.specs.Table.Running.{StaysBesideTable};
 ghost use Rattle.overlaps.specs.Instance.{IsReferenceAt};
 ghost use Rattle.overlaps.specs.Stopping.{IsOverlapStop};
@@ -24,7 +24,7 @@ pub struct CommonInstance {
     pub trait_ref: TraitRef,
     /// Whether both impls are known to hold of it: no alias stands in the headers, their equation leaks no region, and each where clause
     /// of both is answered by a Yes that gives no variable a value, save those of what outlives what, which are assumed. It isn't certain
-    /// where a clause is of a projection, or its trait may lead to an auto trait with an impl for some types of a head alone.
+    /// where a region leaks in what such a Yes rests on, where a clause is of a projection, or its trait may lead to an auto trait with an impl for some types of a head alone.
     pub is_certain: bool,
 }
 
@@ -46,6 +46,7 @@ pub(crate) fn common_instance(
     requires { IsArgs rounds.old.context.trees first.now.header }
     ensures stays { StaysBesideTable rounds.old rounds.new }
     ensures table { table_of rounds.new ≡ table_of rounds.old }
+    ensures sure { sure_of rounds.new ≡ sure_of rounds.old }
     ensures is { IfOk result (λ x. IsReferenceAt (state rounds.old) first.now.def_id (args_forest rounds.old.context.trees first.now.header) rounds.new.context.trees x.trait_ref) }
     ensures certain { IfOk result (λ x. x.is_certain ≡ is_certain) }
     ensures cause { IfErr result (IsOverlapStop rounds.old rounds.new) }

@@ -1,6 +1,9 @@
 //! Impls that are kept apart since a where clause of one of them is known not to hold.
 
 ghost use Rattle.std.specs.Prelude.{◌≡◌, ◌≢◌, ◌<◌, None, Some, true, false, map, slice_get, IfErr, IfOk, IfSome, OnOk};
+ghost use Rattle.std.specs.Option.{option_map};
+ghost use Rattle.ir_trees.specs.declared.ir.stop.Stop.{Stop};
+ghost use Rattle.ir_trees.specs.Declarations.References.{ArgumentsFit};
 ghost use Rattle.ir_trees.specs.Instantiation.Folding.{lacks_argument};
 ghost use Rattle.ir_trees.specs.Instantiation.Folds.{IsArg, arg_tree};
 ghost use Rattle.ir_trees.specs.Instantiation.Owned.{ClausesAreOwned};
@@ -9,10 +12,15 @@ ghost use Rattle.ir_trees.specs.Syntax.Words.{ClauseListFits, IsArgs, IsClause, 
 ghost use Rattle.candidate_eval.specs.Dynamic.Required.{each_of};
 ghost use Rattle.candidate_eval.specs.Interface.Evaluators.{arguments_accepted};
 ghost use Rattle.candidate_eval.specs.Interface.Shown.{Keeps, StopsSomehow, view};
+ghost use Rattle.candidate_assembly.specs.Goals.TraitGoals.{trait_goal};
 ghost use Rattle.candidate_rounds.specs.Evaluators.Interface.{fixed, judge_of};
-ghost use Rattle.candidate_rounds.specs.Evaluators.Known.{state, table_of};
+ghost use Rattle.candidate_rounds.specs.Evaluators.Known.{state, sure_of, table_of};
+ghost use Rattle.candidate_rounds.specs.Table.Goals.{IsVerdict, verdict_seen};
 ghost use Rattle.candidate_rounds.specs.Table.Normalizing.{rounds_shown};
 ghost use Rattle.candidate_rounds.specs.Table.Running.{StaysBesideTable};
+ghost use Rattle.rounds_judge.specs.Table.GoalTable.{verdict_in};
+ghost use Rattle.rounds_judge.specs.Table.Keys.{key_at};
+ghost use Rattle.overlaps.specs.Answered.{HoldsForAll, IsPlainYes};
 ghost use Rattle.overlaps.specs.Apart.{OfDeclared, aside};
 ghost use Rattle.overlaps.specs.Negated.{AreImplied, ArePlugged, ClauseIsNegated, IsDenied, IsEnvironmentAt, IsKeptApart, IsNegatedBy, IsNegatedFrom, IsNegatedOfPair, IsNegatedUnder, MayBePlugged, OneIsDeniedHere, OneIsNegated, both_forests, clauses_at, turned};
 ghost use Rattle.overlaps.specs.Refused.{AreOpen, IsOpen, StaysBesideKnown, clause_at};
@@ -28,6 +36,7 @@ use candidate_eval::eval::clauses::{predicate_in, substitute};
 use candidate_eval::eval::context::{EvalCtxt, ProbeKind};
 use candidate_eval::eval::refusal::NoSolutionOrStop;
 use candidate_rounds::rounds::Rounds;
+use candidate_rounds::rounds::goals::Verdict;
 use ir_context::decl::Cx;
 use ir_context::decl::make::{Build, Make};
 use ir_folds::decl::elaborate::elaborate;
@@ -154,6 +163,62 @@ fn plug(rounds: &mut Rounds, env: ParamEnv, locals: Args, placeholders: Args) ->
     Ok(())
 }
 
+/// Whether it is a Yes of which the constraints don't hold for every placeholder.
+fn is_leaking_yes(alloc: Global, rounds: &Rounds, verdict: &Option<Verdict>) -> Result<bool, Stop>
+    requires { IsVerdict rounds.now.context.trees verdict.now }
+    ensures no { IfOk result (λ b. b ≡ false → HoldsForAll (option_map (verdict_seen rounds.now.context.trees) verdict.now)) }
+    ensures cause { IfErr result (λ s. s ≡ Stop.Memory) }
+{
+    match verdict {
+        Some(Verdict::Yes(response, _)) => rounds.response_leaks(alloc, response),
+        Some(Verdict::Maybe(_, _) | Verdict::Refused) | None => Ok(false),
+    }
+}
+
+/// Whether the goal stands at what is known, and the constraints of its Yes, if the table has one, hold for every placeholder.
+fn holds_for_all(
+    alloc: Global,
+    rounds: &mut Rounds,
+    env: ParamEnv,
+    predicate: TraitPredicate,
+) -> Result<bool, Stop>
+    requires env { IsParamEnv rounds.old.context.trees env }
+    requires args { IsArgs rounds.old.context.trees predicate.trait_ref.args }
+    ensures stays { StaysBesideTable rounds.old rounds.new }
+    ensures sure { sure_of rounds.new ≡ sure_of rounds.old }
+    ensures holds { let r = rounds.old in IfOk result (λ b. b ≡ true → HoldsForAll (verdict_in (table_of r) (key_at (state r) (trait_goal r.context.trees env predicate)))) }
+    ensures cause { IfErr result (IsOverlapStop rounds.old rounds.new) }
+{
+    if !rounds.stands_here(alloc, env, predicate) {
+        return Ok(false);
+    }
+    let verdict = rounds.entry(alloc, env, predicate)?;
+    let leaks = is_leaking_yes(alloc, rounds, &verdict)?;
+    Ok(!leaks)
+}
+
+/// Whether the goal is answered, by a Yes of which the constraints hold for every placeholder.
+fn is_answered_for_all(
+    alloc: Global,
+    rounds: &mut Rounds,
+    env: ParamEnv,
+    predicate: TraitPredicate,
+) -> Result<bool, Stop>
+    requires env { IsParamEnv rounds.old.context.trees env }
+    requires args { IsArgs rounds.old.context.trees predicate.trait_ref.args }
+    requires fit { ArgumentsFit rounds.old.context predicate.trait_ref }
+    ensures stays { StaysBesideTable rounds.old rounds.new }
+    ensures sure { sure_of rounds.new ≡ sure_of rounds.old }
+    ensures answered { let r = rounds.old in IfOk result (λ b. b ≡ true → IsPlainYes (verdict_in (sure_of r) (key_at (state r) (trait_goal r.context.trees env predicate)))) }
+    ensures for_all { let r = rounds.old in IfOk result (λ b. b ≡ true → HoldsForAll (verdict_in (sure_of r) (key_at (state r) (trait_goal r.context.trees env predicate)))) }
+    ensures cause { IfErr result (IsOverlapStop rounds.old rounds.new) }
+{
+    if !holds_for_all(alloc, rounds, env, predicate)? {
+        return Ok(false);
+    }
+    is_predicate_answered(alloc, rounds, env, predicate)
+}
+
 /// Whether it is known that what the clause says of a trait is not so: in so many rounds the opposite comes to a Yes that says nothing of any
 /// variable.
 fn is_negation_answered(
@@ -167,7 +232,7 @@ fn is_negation_answered(
     requires env { IsParamEnv rounds.old.context.trees env }
     requires clause { IsClause rounds.old.context.trees clause }
     ensures stays { StaysBesideTable rounds.old rounds.new }
-    ensures denied { let r = rounds.old in let ts = r.context.trees in IfOk result (λ b. b ≡ true → IsDenied (env_forest ts env) (table_of rounds.new) (state r) (clause_tree ts clause)) }
+    ensures denied { let r = rounds.old in let ts = r.context.trees in IfOk result (λ b. b ≡ true → IsDenied (env_forest ts env) (sure_of rounds.new) (state r) (clause_tree ts clause)) }
     ensures cause { IfErr result (IsOverlapStop rounds.old rounds.new) }
 {
     let Some(predicate) = predicate_in(rounds.cx(), clause) else {
@@ -175,7 +240,7 @@ fn is_negation_answered(
     };
     let opposite = negated(predicate);
     run_predicate(alloc, rounds, env, opposite, count)?;
-    is_predicate_answered(alloc, rounds, env, opposite)
+    is_answered_for_all(alloc, rounds, env, opposite)
 }
 
 /// Whether this is known of one of the clauses.
@@ -190,7 +255,7 @@ fn is_one_negated(
     requires env { IsParamEnv rounds.old.context.trees env }
     requires clauses { ClauseListFits rounds.old.context.trees clauses.now }
     ensures stays { StaysBesideTable rounds.old rounds.new }
-    ensures denied { IfOk result (λ b. b ≡ true → OneIsDeniedHere rounds.old (table_of rounds.new) env clauses.now) }
+    ensures denied { IfOk result (λ b. b ≡ true → OneIsDeniedHere rounds.old (sure_of rounds.new) env clauses.now) }
     ensures cause { IfErr result (IsOverlapStop rounds.old rounds.new) }
 {
     for number in 0..clauses.len() {
@@ -256,7 +321,7 @@ fn is_clause_negated(
     requires locals { IsArgs rounds.old.context.trees locals }
     requires there { tree_holds (lacks_argument (args_forest rounds.old.context.trees locals)) (clause_tree rounds.old.context.trees clause) ≡ false }
     ensures stays { StaysBesideTable rounds.old rounds.new }
-    ensures negated { IfOk result (λ b. b ≡ true → ClauseIsNegated rounds.old (table_of rounds.new) env locals clause) }
+    ensures negated { IfOk result (λ b. b ≡ true → ClauseIsNegated rounds.old (sure_of rounds.new) env locals clause) }
     ensures cause { IfErr result (IsOverlapStop rounds.old rounds.new) }
 {
     let implied = implied_by(alloc, rounds, clause, locals)?;
@@ -277,7 +342,7 @@ fn first_negated(
     requires locals { IsArgs rounds.old.context.trees locals }
     requires clauses { ClausesAreOwned rounds.old.context.trees (args_forest rounds.old.context.trees locals) clauses.now }
     ensures stays { StaysBesideTable rounds.old rounds.new }
-    ensures negated { IfOk result (λ o. IfSome o (OneIsNegated rounds.old (table_of rounds.new) env locals clauses.now)) }
+    ensures negated { IfOk result (λ o. IfSome o (OneIsNegated rounds.old (sure_of rounds.new) env locals clauses.now)) }
     ensures cause { IfErr result (IsOverlapStop rounds.old rounds.new) }
 {
     for number in 0..clauses.len() {
@@ -335,7 +400,7 @@ fn negated_under(
     requires some { 0 < count }
     requires pair { AreOpen rounds.old.context.trees pair.now }
     ensures stays { StaysBesideTable rounds.old rounds.new }
-    ensures negated { IfOk result (λ o. IfSome o (IsNegatedUnder rounds.old (table_of rounds.new) pair.now)) }
+    ensures negated { IfOk result (λ o. IfSome o (IsNegatedUnder rounds.old (sure_of rounds.new) pair.now)) }
     ensures cause { IfErr result (IsOverlapStop rounds.old rounds.new) }
 {
     let env = environment_here(alloc, rounds, &pair.first)?;
@@ -360,7 +425,7 @@ fn negated_where_equal(
     requires first { IsArgs rounds.old.context.trees placeholders.0 }
     requires second { IsArgs rounds.old.context.trees placeholders.1 }
     ensures stays { StaysBesideKnown rounds.old rounds.new }
-    ensures negated { let r = rounds.old in IfOk result (λ o. IfSome o (IsNegatedFrom r (state r) (both_forests r.context.trees placeholders) (table_of rounds.new) pair.now)) }
+    ensures negated { let r = rounds.old in IfOk result (λ o. IfSome o (IsNegatedFrom r (state r) (both_forests r.context.trees placeholders) (sure_of rounds.new) pair.now)) }
     ensures cause { IfErr result (IsOverlapStop rounds.old rounds.new) }
 {
     plug(rounds, env, pair.first.locals, placeholders.0)?;
@@ -381,7 +446,7 @@ fn negated_of_pair(
     requires first { IsArgs rounds.old.context.trees placeholders.0 }
     requires second { IsArgs rounds.old.context.trees placeholders.1 }
     ensures stays { StaysBesideKnown rounds.old rounds.new }
-    ensures negated { let r = rounds.old in IfOk result (λ o. IfSome o (IsNegatedOfPair r (both_forests r.context.trees placeholders) (table_of rounds.new) pair.now)) }
+    ensures negated { let r = rounds.old in IfOk result (λ o. IfSome o (IsNegatedOfPair r (both_forests r.context.trees placeholders) (sure_of rounds.new) pair.now)) }
     ensures cause { IfErr result (IsOverlapStop rounds.old rounds.new) }
 {
     if have_aliases(rounds.cx(), pair) {
@@ -409,7 +474,7 @@ fn negated_here(
 ) -> Result<Option<usize>, Stop>
     requires some { 0 < count }
     ensures stays { StaysBesideKnown rounds.old rounds.new }
-    ensures negated { let r = rounds.old in IfOk result (λ o. IfSome o (λ n. OfDeclared r.context first second (IsNegatedBy r (state r) (table_of rounds.new) n))) }
+    ensures negated { let r = rounds.old in IfOk result (λ o. IfSome o (λ n. OfDeclared r.context first second (IsNegatedBy r (state r) (sure_of rounds.new) n))) }
     ensures cause { IfErr result (IsOverlapStop rounds.old rounds.new) }
 {
     recall_impl_given(rounds.cx(), first);
@@ -432,7 +497,7 @@ fn negated_aside(
 ) -> Result<Option<usize>, Stop>
     requires some { 0 < count }
     ensures stays { StaysBesideTable rounds.old rounds.new }
-    ensures negated { let r = rounds.old in IfOk result (λ o. IfSome o (λ n. OfDeclared r.context first second (IsNegatedBy r (aside (state r)) (table_of rounds.new) n))) }
+    ensures negated { let r = rounds.old in IfOk result (λ o. IfSome o (λ n. OfDeclared r.context first second (IsNegatedBy r (aside (state r)) (sure_of rounds.new) n))) }
     ensures cause { IfErr result (IsOverlapStop rounds.old rounds.new) }
 {
     let probe = rounds.begin_probe(ProbeKind::SetAside)?;
@@ -451,7 +516,7 @@ fn negated_aside(
 /// overlap both impls hold of one reference then.
 ///
 /// `None` comes where there is none, where the numbers aren't those of two impls of one trait, where their headers can't be made equal or their
-/// equation leaks a region (`impls_overlap`), and where an alias stands in one of them. The mode is the evaluator's; rustc asks outside coherence, since in coherence no negative goal is known that
+/// equation leaks a region (`impls_overlap`), and where an alias stands in one of them. A Yes in which a region leaks answers no clause. The mode is the evaluator's; rustc asks outside coherence, since in coherence no negative goal is known that
 /// another crate might make false. All that is known, what is pending and the open probes stay, whatever is answered; the table has what the
 /// rounds have found. The stops are those of `impls_overlap`.
 pub fn kept_apart_by_negation(
@@ -463,7 +528,7 @@ pub fn kept_apart_by_negation(
 ) -> Result<Option<WhereClause>, Stop>
     requires some { 0 < count }
     ensures stays { StaysBesideTable rounds.old rounds.new }
-    ensures negated { IfOk result (λ o. IfSome o (IsKeptApart rounds.old (table_of rounds.new) first second)) }
+    ensures negated { IfOk result (λ o. IfSome o (IsKeptApart rounds.old (sure_of rounds.new) first second)) }
     ensures cause { IfErr result (IsOverlapStop rounds.old rounds.new) }
 {
     recall_impl_given(rounds.cx(), first);

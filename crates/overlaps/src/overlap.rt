@@ -3,7 +3,7 @@
 ghost use Rattle.std.specs.Prelude.{◌≡◌, ◌<◌, ◌⊎◌, ◌||◌, ◌↔◌, [], None, Some, false, true, IfErr, IfOk, IfSome};
 ghost use Rattle.ir_trees.specs.Syntax.Trees.{holds, is_alias, none};
 ghost use Rattle.ir_trees.specs.Syntax.Words.{IsParamEnv, args_forest, env_forest};
-ghost use Rattle.candidate_rounds.specs.Evaluators.Known.{listing, state, table_of};
+ghost use Rattle.candidate_rounds.specs.Evaluators.Known.{listing, state, sure_of, table_of};
 ghost use Rattle.candidate_rounds.specs.Table.Running.{StaysBesideTable};
 ghost use Rattle.rounds_judge.specs.Equations.Opening.{are_open};
 ghost use Rattle.overlaps.specs.Allowed.{allowance_of, allowance_of_ordered};
@@ -136,9 +136,10 @@ fn are_certain(alloc: Global, rounds: &mut Rounds, env: ParamEnv, pair: &Pair) -
     requires pair { AreOpen rounds.old.context.trees pair.now }
     ensures stays { StaysBesideTable rounds.old rounds.new }
     ensures table { table_of rounds.new ≡ table_of rounds.old }
-    ensures hold { let r = rounds.old in IfOk result (λ b. b ≡ true → BothHold r.context.trees (table_of r) (state r) pair.now) }
+    ensures sure { sure_of rounds.new ≡ sure_of rounds.old }
+    ensures hold { let r = rounds.old in IfOk result (λ b. b ≡ true → BothHold r.context.trees (sure_of r) (state r) pair.now) }
     ensures no_alias { let f = args_forest rounds.old.context.trees in IfOk result (λ b. b ≡ true → HaveNoAlias (f pair.now.first.header) (f pair.now.second.header)) }
-    ensures uncertain { let r = rounds.old in IfOk result (λ b. b ≡ false → IsUncertainWhereEqual r.context (table_of r) (state r) pair.now) }
+    ensures uncertain { let r = rounds.old in IfOk result (λ b. b ≡ false → IsUncertainWhereEqual r.context (sure_of r) (state r) pair.now) }
     ensures cause { IfErr result (IsOverlapStop rounds.old rounds.new) }
 {
     if have_aliases(rounds.cx(), pair) {
@@ -164,7 +165,7 @@ fn overlap_where_equal(
     ensures is { IfOk result (IsFoundWhereEqual rounds.old rounds.new pair.now) }
     ensures asked { let r = rounds.old in IfOk result (WhereMay (BothStay r (state r) count pair.now (table_of r) (table_of rounds.new))) }
     ensures before { let r = rounds.old in IfOk result (OfClause (StayBefore r (state r) count pair.now (table_of r))) }
-    ensures uncertain { let r = rounds.old in IfOk result (WhereUncertain (IsUncertainWhereEqual r.context (table_of rounds.new) (state r) pair.now)) }
+    ensures uncertain { let r = rounds.old in IfOk result (WhereUncertain (IsUncertainWhereEqual r.context (sure_of rounds.new) (state r) pair.now)) }
     ensures cause { IfErr result (IsOverlapStop rounds.old rounds.new) }
 {
     if let Some(clause) = refused_clause(alloc, rounds, env, pair, count)? {
@@ -209,7 +210,7 @@ fn overlap_unless_leaking(
     ensures is { IfOk result (λ o. IsFoundWhereEqual rounds.old rounds.new pair.now o × IsCertainUnless leaks o) }
     ensures asked { let r = rounds.old in IfOk result (WhereMay (BothStay r (state r) count pair.now (table_of r) (table_of rounds.new))) }
     ensures before { let r = rounds.old in IfOk result (OfClause (StayBefore r (state r) count pair.now (table_of r))) }
-    ensures uncertain { let r = rounds.old in IfOk result (WhereUncertain ((leaks ≡ true) ⊎ IsUncertainWhereEqual r.context (table_of rounds.new) (state r) pair.now)) }
+    ensures uncertain { let r = rounds.old in IfOk result (WhereUncertain ((leaks ≡ true) ⊎ IsUncertainWhereEqual r.context (sure_of rounds.new) (state r) pair.now)) }
     ensures cause { IfErr result (IsOverlapStop rounds.old rounds.new) }
 {
     let answer = overlap_where_equal(alloc, rounds, env, pair, count)?;
@@ -230,7 +231,7 @@ fn overlap_of_pair(
     ensures is { IfOk result (IsFoundOfPair rounds.old rounds.new pair.now) }
     ensures asked { IfOk result (WhereMay (PairWasAsked rounds.old count pair.now (table_of rounds.new))) }
     ensures before { IfOk result (OfClause (PairWasAskedBefore rounds.old count pair.now)) }
-    ensures uncertain { IfOk result (WhereUncertain (PairIsUncertain rounds.old (table_of rounds.new) pair.now)) }
+    ensures uncertain { IfOk result (WhereUncertain (PairIsUncertain rounds.old (sure_of rounds.new) pair.now)) }
     ensures cause { IfErr result (IsOverlapStop rounds.old rounds.new) }
 {
     if are_undecided(rounds, pair) {
@@ -265,7 +266,7 @@ fn overlap_here(
     ensures decided { IfOk result IsNotAllowed }
     ensures asked { let r = rounds.old in IfOk result (WhereMay (OfDeclared r.context first second (WereAsked r (state r) count (table_of rounds.new)))) }
     ensures before { let r = rounds.old in IfOk result (OfClause (λ w. OfDeclared r.context first second (WereAskedBefore r (state r) count first second w))) }
-    ensures uncertain { let r = rounds.old in IfOk result (WhereUncertain (OfDeclared r.context first second (ImplsAreUncertain r (state r) (table_of rounds.new)))) }
+    ensures uncertain { let r = rounds.old in IfOk result (WhereUncertain (OfDeclared r.context first second (ImplsAreUncertain r (state r) (sure_of rounds.new)))) }
     ensures cause { IfErr result (IsOverlapStop rounds.old rounds.new) }
 {
     rounds.cx().recall_well_formed_table();
@@ -289,7 +290,7 @@ fn overlap_aside(
     ensures is { IfOk result (IsFoundAt rounds.old (aside (state rounds.old)) rounds.new first second) }
     ensures asked { let r = rounds.old in IfOk result (WhereMay (OfDeclared r.context first second (WereAsked r (aside (state r)) count (table_of rounds.new)))) }
     ensures before { let r = rounds.old in IfOk result (OfClause (λ w. OfDeclared r.context first second (WereAskedBefore r (aside (state r)) count first second w))) }
-    ensures uncertain { let r = rounds.old in IfOk result (WhereUncertain (OfDeclared r.context first second (ImplsAreUncertain r (aside (state r)) (table_of rounds.new)))) }
+    ensures uncertain { let r = rounds.old in IfOk result (WhereUncertain (OfDeclared r.context first second (ImplsAreUncertain r (aside (state r)) (sure_of rounds.new)))) }
     ensures decided { IfOk result IsNotAllowed }
     ensures cause { IfErr result (IsOverlapStop rounds.old rounds.new) }
 {
@@ -315,7 +316,7 @@ fn overlap_of_ordered(
     ensures is { IfOk result (IsFoundAt rounds.old (aside (state rounds.old)) rounds.new first second) }
     ensures asked { let r = rounds.old in IfOk result (WhereMay (OfDeclared r.context first second (WereAsked r (aside (state r)) count (table_of rounds.new)))) }
     ensures before { let r = rounds.old in IfOk result (OfClause (λ w. OfDeclared r.context first second (WereAskedBefore r (aside (state r)) count first second w))) }
-    ensures uncertain { let r = rounds.old in IfOk result (WhereUncertain (OfDeclared r.context first second (ImplsAreUncertain r (aside (state r)) (table_of rounds.new)))) }
+    ensures uncertain { let r = rounds.old in IfOk result (WhereUncertain (OfDeclared r.context first second (ImplsAreUncertain r (aside (state r)) (sure_of rounds.new)))) }
     ensures allowed { (w : Allowance) → allowance_of_ordered rounds.old.context first second ≡ Some w → result ≡ Ok (Overlap.Allowed w) }
     ensures cause { IfErr result (IsOverlapStop rounds.old rounds.new) }
 {
@@ -369,7 +370,7 @@ pub fn impls_overlap(
     ensures is { IfOk result (IsOverlap rounds.old rounds.new first second) }
     ensures asked { IfOk result (WhereMay (ClausesWereAsked rounds.old count (table_of rounds.new) first second)) }
     ensures before { IfOk result (OfClause (ClausesBeforeWereAsked rounds.old count first second)) }
-    ensures uncertain { IfOk result (WhereUncertain (IsUncertain rounds.old (table_of rounds.new) first second)) }
+    ensures uncertain { IfOk result (WhereUncertain (IsUncertain rounds.old (sure_of rounds.new) first second)) }
     ensures allowed { (w : Allowance) → allowance_of rounds.old.context first second ≡ Some w → result ≡ Ok (Overlap.Allowed w) }
     ensures cause { IfErr result (IsOverlapStop rounds.old rounds.new) }
 {
@@ -391,7 +392,7 @@ pub fn impls_overlap_anyway(
     ensures is { IfOk result (IsOverlap rounds.old rounds.new first second) }
     ensures asked { IfOk result (WhereMay (ClausesWereAsked rounds.old count (table_of rounds.new) first second)) }
     ensures before { IfOk result (OfClause (ClausesBeforeWereAsked rounds.old count first second)) }
-    ensures uncertain { IfOk result (WhereUncertain (IsUncertain rounds.old (table_of rounds.new) first second)) }
+    ensures uncertain { IfOk result (WhereUncertain (IsUncertain rounds.old (sure_of rounds.new) first second)) }
     ensures decided { IfOk result IsNotAllowed }
     ensures cause { IfErr result (IsOverlapStop rounds.old rounds.new) }
 {

@@ -15,7 +15,7 @@ ghost use Rattle.candidate_eval.specs.Interface.Shown.{Keeps};
 ghost use Rattle.candidate_eval.specs.Outcomes.ResponseTrees.{IsResponse};
 ghost use Rattle.candidate_assembly.specs.Goals.KindShown.{IsGoal, trait_kind};
 ghost use Rattle.candidate_assembly.specs.Goals.TraitGoals.{trait_goal};
-ghost use Rattle.candidate_rounds.specs.Evaluators.Known.{Each, listing, state, table_of};
+ghost use Rattle.candidate_rounds.specs.Evaluators.Known.{Each, listing, state, sure_of, table_of};
 ghost use Rattle.candidate_rounds.specs.Table.Normalizing.{IsProjection, rounds_shown};
 ghost use Rattle.candidate_rounds.specs.Table.Running.{StaysBesideTable};
 ghost use Rattle.rounds_judge.specs.Equations.Opening.{are_open};
@@ -107,7 +107,7 @@ fn projection_at(cx: &Cx, number: u32) -> Option<(Ty, AliasTy)>
 }
 
 /// A projection in the clause in whose arguments no alias stands, if the first of such aliases is one.
-fn projection_in(cx: &Cx, clause: Clause) -> Option<(Ty, AliasTy)>
+pub(crate) fn projection_in(cx: &Cx, clause: Clause) -> Option<(Ty, AliasTy)>
     requires { IsClause cx.now.trees clause }
     ensures is { IfSome result (λ p. IsProjectionType cx.now.trees p.0 p.1) }
     ensures stands { let ts = cx.now.trees in IfSome result (λ p. StandsIn (ty_tree ts p.0) (alone (clause_tree ts clause))) }
@@ -123,7 +123,7 @@ fn projection_in(cx: &Cx, clause: Clause) -> Option<(Ty, AliasTy)>
 }
 
 /// What the clause says of a projection: that it is the type.
-fn said_of_projection(cx: &Cx, clause: Clause) -> Option<(AliasTy, Ty)>
+pub(crate) fn said_of_projection(cx: &Cx, clause: Clause) -> Option<(AliasTy, Ty)>
     requires { IsClause cx.now.trees clause }
     ensures fits { IfSome result (λ p. KindFits cx.now.trees (K.Alias p.0) × (p.0.kind ≡ AK.Projection) × IsTy cx.now.trees p.1) }
     ensures takes { IfSome result (λ p. Takes (world cx.now) (kind_tree cx.now.trees (K.Alias p.0))) }
@@ -216,7 +216,7 @@ fn may_be_sure(verdict: &Option<Verdict>) -> bool {
     }
 }
 
-/// Whether the goal, which may be run, holds after that many rounds at most. It stops as `Rounds::run` does.
+/// Whether the goal, which may be run, holds after that many rounds at most, by a Yes that rests on no region that leaks. It stops as `Rounds::run` does.
 fn is_proved(
     alloc: Global,
     rounds: &mut Rounds,
@@ -228,11 +228,14 @@ fn is_proved(
     requires goal { IsGoal trait_kind rounds.old.context env predicate }
     requires asked { may_be_asked (key_at (state rounds.old) (trait_goal rounds.old.context.trees env predicate)) ≡ true }
     ensures stays { StaysBesideTable rounds.old rounds.new }
-    ensures yes { let k = key_at (state rounds.old) (trait_goal rounds.old.context.trees env predicate) in IfOk result (λ b. b ≡ true → HasYes (table_of rounds.new) k) }
+    ensures yes { let k = key_at (state rounds.old) (trait_goal rounds.old.context.trees env predicate) in IfOk result (λ b. b ≡ true → HasYes (sure_of rounds.new) k) }
     ensures cause { IfErr result (IsOverlapStop rounds.old rounds.new) }
 {
     match rounds.run(alloc, env, predicate, count)? {
-        Verdict::Yes(_, _) => Ok(true),
+        Verdict::Yes(_, _) => {
+            let leaks = rounds.entry_leaks(alloc, env, predicate)?;
+            Ok(!leaks)
+        }
         Verdict::Maybe(_, _) | Verdict::Refused => Ok(false),
     }
 }
@@ -279,7 +282,7 @@ fn normal(
 }
 
 /// The type that the projection is, where a sure answer says it: what that says of variables is known then.
-fn projected(
+pub(crate) fn projected(
     alloc: Global,
     rounds: &mut Rounds,
     env: ParamEnv,
@@ -288,11 +291,10 @@ fn projected(
 ) -> Result<ProjectionType, Stop>
     requires some { 0 < count }
     requires env { IsParamEnv rounds.old.context.trees env }
-    requires empty { env_forest rounds.old.context.trees env ≡ none }
     requires alias { KindFits rounds.old.context.trees (K.Alias alias) }
     requires projection { alias.kind ≡ AK.Projection }
     ensures stays { StaysBesideKnown rounds.old rounds.new }
-    ensures is { let r = rounds.old in IfOk result (IsProjectedAs r rounds.new (kind_tree r.context.trees (K.Alias alias))) }
+    ensures is { let r = rounds.old in let ts = r.context.trees in IfOk result (IsProjectedAs r rounds.new (env_forest ts env) (kind_tree ts (K.Alias alias))) }
     ensures cause { IfErr result (IsOverlapStop rounds.old rounds.new) }
 {
     match normal(alloc, rounds, env, alias, count)? {

@@ -39,8 +39,8 @@ fn is_plain_yes(cx: &Cx, verdict: &Option<Verdict>) -> bool
     }
 }
 
-/// Whether the table has a Yes for the goal which says nothing of any variable, and may not rest on an impl for a part of the types with a
-/// head.
+/// Whether the table has a Yes for the goal which says nothing of any variable, rests on no region that leaks, and may not rest on an impl for
+/// a part of the types with a head.
 pub(crate) fn is_predicate_answered(
     alloc: Global,
     rounds: &mut Rounds,
@@ -53,6 +53,10 @@ pub(crate) fn is_predicate_answered(
     }
     let verdict = rounds.entry(alloc, env, predicate)?;
     if !is_plain_yes(rounds.cx(), &verdict) {
+        return Ok(false);
+    }
+    let leaks = rounds.entry_leaks(alloc, env, predicate)?;
+    if leaks {
         return Ok(false);
     }
     Ok(!may_rest_on_part(alloc, rounds.cx(), predicate.trait_ref.def_id)?)

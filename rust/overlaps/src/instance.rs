@@ -21,7 +21,7 @@ pub struct CommonInstance {
     pub trait_ref: TraitRef,
     /// Whether both impls are known to hold of it: no alias stands in the headers, their equation leaks no region, and each where clause
     /// of both is answered by a Yes that gives no variable a value, save those of what outlives what, which are assumed. It isn't certain
-    /// where a clause is of a projection, or its trait may lead to an auto trait with an impl for some types of a head alone.
+    /// where a region leaks in what such a Yes rests on, where a clause is of a projection, or its trait may lead to an auto trait with an impl for some types of a head alone.
     pub is_certain: bool,
 }
 

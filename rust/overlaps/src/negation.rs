@@ -14,6 +14,7 @@ use candidate_eval::eval::clauses::{predicate_in, substitute};
 use candidate_eval::eval::context::{EvalCtxt, ProbeKind};
 use candidate_eval::eval::refusal::NoSolutionOrStop;
 use candidate_rounds::rounds::Rounds;
+use candidate_rounds::rounds::goals::Verdict;
 use ir_context::decl::Cx;
 use ir_context::decl::make::{Build, Make};
 use ir_folds::decl::elaborate::elaborate;
@@ -105,6 +106,45 @@ fn plug(rounds: &mut Rounds, env: ParamEnv, locals: Args, placeholders: Args) ->
     Ok(())
 }
 
+/// Whether it is a Yes of which the constraints don't hold for every placeholder.
+fn is_leaking_yes(alloc: Global, rounds: &Rounds, verdict: &Option<Verdict>) -> Result<bool, Stop>
+{
+    match verdict {
+        Some(Verdict::Yes(response, _)) => rounds.response_leaks(alloc, response),
+        Some(Verdict::Maybe(_, _) | Verdict::Refused) | None => Ok(false),
+    }
+}
+
+/// Whether the goal stands at what is known, and the constraints of its Yes, if the table has one, hold for every placeholder.
+fn holds_for_all(
+    alloc: Global,
+    rounds: &mut Rounds,
+    env: ParamEnv,
+    predicate: TraitPredicate,
+) -> Result<bool, Stop>
+{
+    if !rounds.stands_here(alloc, env, predicate) {
+        return Ok(false);
+    }
+    let verdict = rounds.entry(alloc, env, predicate)?;
+    let leaks = is_leaking_yes(alloc, rounds, &verdict)?;
+    Ok(!leaks)
+}
+
+/// Whether the goal is answered, by a Yes of which the constraints hold for every placeholder.
+fn is_answered_for_all(
+    alloc: Global,
+    rounds: &mut Rounds,
+    env: ParamEnv,
+    predicate: TraitPredicate,
+) -> Result<bool, Stop>
+{
+    if !holds_for_all(alloc, rounds, env, predicate)? {
+        return Ok(false);
+    }
+    is_predicate_answered(alloc, rounds, env, predicate)
+}
+
 /// Whether it is known that what the clause says of a trait is not so: in so many rounds the opposite comes to a Yes that says nothing of any
 /// variable.
 fn is_negation_answered(
@@ -120,7 +160,7 @@ fn is_negation_answered(
     };
     let opposite = negated(predicate);
     run_predicate(alloc, rounds, env, opposite, count)?;
-    is_predicate_answered(alloc, rounds, env, opposite)
+    is_answered_for_all(alloc, rounds, env, opposite)
 }
 
 /// Whether this is known of one of the clauses.
@@ -317,7 +357,7 @@ fn negated_aside(
 /// overlap both impls hold of one reference then.
 ///
 /// `None` comes where there is none, where the numbers aren't those of two impls of one trait, where their headers can't be made equal or their
-/// equation leaks a region (`impls_overlap`), and where an alias stands in one of them. The mode is the evaluator's; rustc asks outside coherence, since in coherence no negative goal is known that
+/// equation leaks a region (`impls_overlap`), and where an alias stands in one of them. A Yes in which a region leaks answers no clause. The mode is the evaluator's; rustc asks outside coherence, since in coherence no negative goal is known that
 /// another crate might make false. All that is known, what is pending and the open probes stay, whatever is answered; the table has what the
 /// rounds have found. The stops are those of `impls_overlap`.
 pub fn kept_apart_by_negation(

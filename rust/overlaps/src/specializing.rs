@@ -4,10 +4,13 @@
 
 
 use kit::{eprintln, format, prelude::*, print, println, vec};
-use crate::answered::first_unanswered;
+use crate::answered::{is_outlives, is_predicate_answered};
+use crate::negation::make_one_equal;
 use crate::opening::{Opened, Pair, enter_and_open};
 use crate::overlap::have_aliases;
 use crate::plain::make_equal;
+use crate::together::{ProjectionType, projected, projection_in, said_of_projection};
+use candidate_assembly::assembly::opaques::with_type_for;
 use candidate_eval::eval::clauses::{predicate_in, substitute};
 use candidate_eval::eval::context::{EvalCtxt, ProbeKind};
 use candidate_rounds::rounds::Rounds;
@@ -15,7 +18,7 @@ use ir_context::decl::Cx;
 use ir_context::decl::make::{Build, Make};
 use ir_folds::decl::elaborate::elaborate;
 use ir_trees::decl::contents::{Impl, ImplId, ImplPolarity};
-use ir_trees::ir::kinds::{Args, Clause, ParamEnv, TraitPredicate};
+use ir_trees::ir::kinds::{AliasTy, Args, Clause, GenericArg, ParamEnv, TraitPredicate, Ty};
 use ir_trees::ir::stop::Stop;
 use kit::alloc::Global;
 
@@ -31,6 +34,12 @@ pub enum Specialization {
     /// The where clause of the other one in this place isn't known to hold.
     Unanswered(usize),
 }
+
+/// A where clause that is left, with all that stands for parameters, and its number.
+type Left = (usize, Clause);
+
+/// How many projections of a where clause get their types at most.
+const MAX_TYPES: u32 = 64;
 
 /// Whether the impls say the same of whether their traits hold.
 fn have_one_polarity(one: &Impl, other: &Impl) -> bool
@@ -113,18 +122,15 @@ pub(crate) fn run_predicate(
     Ok(())
 }
 
-/// Runs the goal of a where clause in so many rounds, with what stands for the parameters put in and all values; one that says nothing of a
-/// trait has none.
+/// Runs the goal of a where clause in so many rounds, with all values put in; one that says nothing of a trait has none.
 fn run_clause(
     alloc: Global,
     rounds: &mut Rounds,
     env: ParamEnv,
     clause: Clause,
-    locals: Args,
     count: u16,
 ) -> Result<(), Stop>
 {
-    let clause = substitute(alloc, rounds, clause, locals)?;
     let clause = rounds.resolve_clause_if_possible(clause)?;
     let Some(predicate) = predicate_in(rounds.cx(), clause) else {
         return Ok(());
@@ -132,23 +138,186 @@ fn run_clause(
     run_predicate(alloc, rounds, env, predicate, count)
 }
 
-/// Runs the goals of the where clauses, one after the other.
-fn run_clauses(
+/// Runs the goals of where clauses that are left, one after the other.
+fn run_left(
     alloc: Global,
     rounds: &mut Rounds,
     env: ParamEnv,
-    clauses: &[Clause],
-    locals: Args,
+    left: &[Left],
     count: u16,
 ) -> Result<(), Stop>
 {
-    for number in 0..clauses.len() {
-        run_clause(alloc, rounds, env, clauses[number], locals, count)?;
+    for i in 0..left.len() {
+        run_clause(alloc, rounds, env, left[i].1, count)?;
     }
     Ok(())
 }
 
-/// Whether each where clause of the impl holds, whose header is equal to that of the one which may specialise it.
+/// Whether a where clause holds by the table, with all values put in: one that says what outlives what is assumed.
+fn is_held(alloc: Global, rounds: &mut Rounds, env: ParamEnv, clause: Clause) -> Result<bool, Stop>
+{
+    let clause = rounds.resolve_clause_if_possible(clause)?;
+    if is_outlives(rounds.cx(), clause) {
+        return Ok(true);
+    }
+    let Some(predicate) = predicate_in(rounds.cx(), clause) else {
+        return Ok(false);
+    };
+    is_predicate_answered(alloc, rounds, env, predicate)
+}
+
+/// The number of the first where clause that is left and doesn't.
+fn first_not_held(
+    alloc: Global,
+    rounds: &mut Rounds,
+    env: ParamEnv,
+    left: &[Left],
+) -> Result<Option<usize>, Stop>
+{
+    for i in 0..left.len() {
+        if !is_held(alloc, rounds, env, left[i].1)? {
+            return Ok(Some(left[i].0));
+        }
+    }
+    Ok(None)
+}
+
+/// Whether nothing is pending; else what is pending is forgotten.
+fn is_quiet(alloc: Global, rounds: &mut Rounds) -> Result<bool, Stop>
+{
+    let goals = rounds.take_pending(alloc)?;
+    Ok(goals.as_slice().is_empty())
+}
+
+/// Whether the projection has a type in so many rounds, and this can be made equal to what a where clause says, so that nothing is left pending.
+fn holds_as_said(
+    alloc: Global,
+    rounds: &mut Rounds,
+    env: ParamEnv,
+    said: (AliasTy, Ty),
+    count: u16,
+) -> Result<bool, Stop>
+{
+    match projected(alloc, rounds, env, said.0, count)? {
+        ProjectionType::Open => Ok(false),
+        ProjectionType::Impossible => Ok(false),
+        ProjectionType::Type(ty) => {
+            if !make_one_equal(rounds, env, GenericArg::Ty(ty), GenericArg::Ty(said.1))? {
+                return Ok(false);
+            }
+            is_quiet(alloc, rounds)
+        }
+    }
+}
+
+/// The where clause with the type of a projection in its place and all values put in, or as it is where that isn't known; nothing, where there
+/// can't be one.
+fn with_type(
+    alloc: Global,
+    rounds: &mut Rounds,
+    env: ParamEnv,
+    clause: Clause,
+    projection: (Ty, AliasTy),
+    count: u16,
+) -> Result<Option<Clause>, Stop>
+{
+    match projected(alloc, rounds, env, projection.1, count)? {
+        ProjectionType::Open => Ok(Some(clause)),
+        ProjectionType::Impossible => Ok(None),
+        ProjectionType::Type(ty) => {
+            if !is_quiet(alloc, rounds)? {
+                return Ok(None);
+            }
+            let typed = with_type_for(alloc, rounds, projection.0, ty, clause)?;
+            let resolved = rounds.resolve_clause_if_possible(typed)?;
+            Ok(Some(resolved))
+        }
+    }
+}
+
+/// The where clause with all values put in, and with types in the place of projections, as far as these are known; nothing, where one can't
+/// have a type.
+fn with_types(
+    alloc: Global,
+    rounds: &mut Rounds,
+    env: ParamEnv,
+    clause: Clause,
+    count: u16,
+) -> Result<Option<Clause>, Stop>
+{
+    let mut clause = rounds.resolve_clause_if_possible(clause)?;
+    for _step in 0..MAX_TYPES {
+        let Some(projection) = projection_in(rounds.cx(), clause) else {
+            return Ok(Some(clause));
+        };
+        let Some(next) = with_type(alloc, rounds, env, clause, projection, count)? else {
+            return Ok(None);
+        };
+        if next == clause {
+            return Ok(Some(next));
+        }
+        clause = next;
+    }
+    Ok(Some(clause))
+}
+
+/// A where clause gets types in the place of projections, and is left then, if it says nothing of a projection; else it is the answer whether
+/// that holds.
+fn take_up(
+    alloc: Global,
+    rounds: &mut Rounds,
+    env: ParamEnv,
+    clause: Left,
+    count: u16,
+    left: &mut Vec<Left>,
+) -> Result<bool, Stop>
+{
+    let Some(typed) = with_types(alloc, rounds, env, clause.1, count)? else {
+        return Ok(false);
+    };
+    if let Some(said) = said_of_projection(rounds.cx(), typed) {
+        return holds_as_said(alloc, rounds, env, said, count);
+    }
+    left.push((clause.0, typed))?;
+    Ok(true)
+}
+
+/// All where clauses are taken up, one after the other: the number of the first that doesn't hold, if one doesn't.
+fn take_up_all(
+    alloc: Global,
+    rounds: &mut Rounds,
+    env: ParamEnv,
+    clauses: &[Clause],
+    count: u16,
+    left: &mut Vec<Left>,
+) -> Result<Option<usize>, Stop>
+{
+    for number in 0..clauses.len() {
+        if !take_up(alloc, rounds, env, (number, clauses[number]), count, left)? {
+            return Ok(Some(number));
+        }
+    }
+    Ok(None)
+}
+
+/// Whether each where clause that is left holds, once the goals of all are run.
+fn what_is_left_holds(
+    alloc: Global,
+    rounds: &mut Rounds,
+    env: ParamEnv,
+    left: &[Left],
+    count: u16,
+) -> Result<Specialization, Stop>
+{
+    run_left(alloc, rounds, env, left, count)?;
+    match first_not_held(alloc, rounds, env, left)? {
+        Some(number) => Ok(Specialization::Unanswered(number)),
+        None => Ok(Specialization::Specializes),
+    }
+}
+
+/// Whether each where clause of the impl holds, whose header is equal to that of the one which may specialise it: first what they say of
+/// projections, which gives variables their values, and then the others.
 fn specializes_where_equal(
     alloc: Global,
     rounds: &mut Rounds,
@@ -157,12 +326,11 @@ fn specializes_where_equal(
     count: u16,
 ) -> Result<Specialization, Stop>
 {
-    let clauses = general.wheres.as_slice();
-    run_clauses(alloc, rounds, env, clauses, general.locals, count)?;
-    let open = first_unanswered(alloc, rounds, env, clauses, general.locals)?;
-    match open {
+    let clauses = with_locals(alloc, rounds, general.wheres.as_slice(), general.locals)?;
+    let mut left = Vec::new(alloc);
+    match take_up_all(alloc, rounds, env, clauses.as_slice(), count, &mut left)? {
         Some(number) => Ok(Specialization::Unanswered(number)),
-        None => Ok(Specialization::Specializes),
+        None => what_is_left_holds(alloc, rounds, env, left.as_slice(), count),
     }
 }
 
@@ -217,8 +385,13 @@ fn specializes_here(
 /// clause of the other one holds: with all values put in, its goal is run for so many rounds, and has a Yes that gives no variable a value and
 /// leads to no auto trait with an impl for some types of a head alone. A clause that says what outlives what is assumed.
 ///
+/// What clauses of the other one say of projections is asked before: `I: Iterator<Item = U>` holds where the projection has a type by a sure
+/// answer, in so many rounds, and this can be made equal to `U`, which may give variables of the other one their values. A projection in a clause
+/// gets its type so, too.
+///
 /// `Unlike` comes where the numbers aren't those of two impls of one trait with one polarity, `NoInstance` where the headers can't be made
-/// equal, their equation leaks a region (`impls_overlap`), or an alias stands in one of them, and `Unanswered` of the first clause that isn't known to hold, as none of a projection is.
+/// equal, their equation leaks a region (`impls_overlap`), or an alias stands in one of them. `Unanswered` comes of the first clause on a
+/// projection that isn't known to hold, and else of the first other one.
 ///
 /// The mode in which goals are asked for is the evaluator's; rustc asks outside coherence. All that is known, what is pending and the open
 /// probes stay, whatever is answered; the table has what the rounds have found. The stops are those of `impls_overlap`.

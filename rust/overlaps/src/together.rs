@@ -80,7 +80,7 @@ fn projection_at(cx: &Cx, number: u32) -> Option<(Ty, AliasTy)>
 }
 
 /// A projection in the clause in whose arguments no alias stands, if the first of such aliases is one.
-fn projection_in(cx: &Cx, clause: Clause) -> Option<(Ty, AliasTy)>
+pub(crate) fn projection_in(cx: &Cx, clause: Clause) -> Option<(Ty, AliasTy)>
 {
     let mut number = clause.0;
     for _step in 0..MAX_STEPS {
@@ -93,7 +93,7 @@ fn projection_in(cx: &Cx, clause: Clause) -> Option<(Ty, AliasTy)>
 }
 
 /// What the clause says of a projection: that it is the type.
-fn said_of_projection(cx: &Cx, clause: Clause) -> Option<(AliasTy, Ty)>
+pub(crate) fn said_of_projection(cx: &Cx, clause: Clause) -> Option<(AliasTy, Ty)>
 {
     cx.recall_well_formed();
     match cx.clause(clause).value {
@@ -162,7 +162,7 @@ fn may_be_sure(verdict: &Option<Verdict>) -> bool {
     }
 }
 
-/// Whether the goal, which may be run, holds after that many rounds at most. It stops as `Rounds::run` does.
+/// Whether the goal, which may be run, holds after that many rounds at most, by a Yes that rests on no region that leaks. It stops as `Rounds::run` does.
 fn is_proved(
     alloc: Global,
     rounds: &mut Rounds,
@@ -172,7 +172,10 @@ fn is_proved(
 ) -> Result<bool, Stop>
 {
     match rounds.run(alloc, env, predicate, count)? {
-        Verdict::Yes(_, _) => Ok(true),
+        Verdict::Yes(_, _) => {
+            let leaks = rounds.entry_leaks(alloc, env, predicate)?;
+            Ok(!leaks)
+        }
         Verdict::Maybe(_, _) | Verdict::Refused => Ok(false),
     }
 }
@@ -210,7 +213,7 @@ fn normal(
 }
 
 /// The type that the projection is, where a sure answer says it: what that says of variables is known then.
-fn projected(
+pub(crate) fn projected(
     alloc: Global,
     rounds: &mut Rounds,
     env: ParamEnv,

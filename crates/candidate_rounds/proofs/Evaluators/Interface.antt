@@ -1,5 +1,5 @@
 -- What an evaluator of rounds is to generic code stays so.
-use Rattle.std.proofs.Common.{◌≡◌, ◌≢◌, List, [], ◌∷◌, Option, Some, None, Result, Ok, Err, IfErr, IfOk, OnErr, OnOk, refl, sym, ◌∙◌, ap, subst}
+use Rattle.std.proofs.Common.{◌≡◌, ◌≢◌, List, [], ◌∷◌, Option, Some, None, Result, Ok, Err, IfErr, IfOk, OnErr, OnOk, map, refl, sym, ◌∙◌, ap, subst}
 use Rattle.std.specs.List.{All}
 use Rattle.std.proofs.lemmas.List.Elements.{All-cons, All-nil}
 use Rattle.ir_trees.specs.declared.ir.kinds.AliasTy.{AliasTy}
@@ -18,10 +18,11 @@ use Rattle.candidate_eval.specs.Judges.States.{Env, State, next, Pending}
 use Rattle.rounds_judge.specs.Aliases.WellListed.{well_listed}
 use Rattle.rounds_judge.proofs.Aliases.WellListed.{all-listed}
 use Rattle.rounds_judge.specs.Equations.Opening.{equation}
+use Rattle.candidate_rounds.specs.Table.Entries.{GoalEntry}
 use Rattle.candidate_rounds.specs.Table.Goals.{IsTabled, table_seen}
 use Rattle.candidate_rounds.proofs.Table.Tabled.{tabled-sees}
 use Rattle.candidate_rounds.specs.Evaluators.Interface.{fixed, judge_of, rest, led_to}
-use Rattle.candidate_rounds.specs.Evaluators.Known.{Each, Evaluator, GoesOn, IsEvaluator, IsGiven, KeepsGiven, listing, probes, state, table_of, listing_by}
+use Rattle.candidate_rounds.specs.Evaluators.Known.{Each, Evaluator, GoesOn, IsEvaluator, IsGiven, KeepsGiven, listing, notes_of, probes, state, table_of, listing_by}
 use Rattle.candidate_rounds.proofs.Evaluators.Between.{parts}
 use Rattle.candidate_rounds.proofs.Evaluators.Going.{goes-context, goes-probes, goes-same}
 use Rattle.candidate_rounds.proofs.Snapshots.Knowing.{alias-stays, each-map, normals-extend}
@@ -34,6 +35,9 @@ opaques-kept ts us xs e k = each-map (λ a. KindFits ts (K.Alias a)) (λ a. kind
 pub table-kept : (old new : Evaluator) → Grows old.context new.context → KeepsGiven old new → IsTabled old.context.trees old.goals → table_of new ≡ table_of old
 table-kept old new g k tabled = ap (table_seen new.context.trees) k.2 ∙ tabled-sees old.context.trees new.context.trees g.kept old.goals tabled
 
+pub notes-kept : (old new : Evaluator) → KeepsGiven old new → notes_of new ≡ notes_of old
+notes-kept old new k = ap (map (λ (e : GoalEntry). e.1.leaks)) k.2
+
 pub fixed-kept : (old new : Evaluator) → Grows old.context new.context → KeepsGiven old new → IsGiven old.context.trees old.normal.pairs old.opaques → IsTabled old.context.trees old.goals → fixed new ≡ fixed old
 fixed-kept old new g k given tabled =
     let declared : world new.context ≡ world old.context = ap world g.same in
@@ -42,7 +46,8 @@ fixed-kept old new g k given tabled =
     let listed : listing new ≡ listing old = ap (listing_by new.context.trees) k.0 ∙ normals-extend old.context.trees new.context.trees old.normal g.kept given.types in
     let hidden : alias_trees new.context.trees new.opaques ≡ alias_trees old.context.trees old.opaques = ap (alias_trees new.context.trees) k.1 ∙ opaques-kept old.context.trees new.context.trees old.opaques g.kept given.opaques_fit in
     let read = table-kept old new g k tabled in
-    λ i. record { world = declared i; local_crate = local i; limits = bounded i; listing = listed i; opaques = hidden i; table = read i }
+    let noted = notes-kept old new k in
+    λ i. record { world = declared i; local_crate = local i; limits = bounded i; listing = listed i; opaques = hidden i; table = read i; notes = noted i }
 
 -- where no node is made
 pub fixed-same : (old new : Evaluator) → KeepsGiven old new → new.context.declarations ≡ old.context.declarations → new.context.local ≡ old.context.local → new.context.limits ≡ old.context.limits → new.context.trees ≡ old.context.trees → fixed new ≡ fixed old
@@ -50,7 +55,8 @@ fixed-same old new k d n b t =
     let listed : listing new ≡ listing old = ap (listing_by new.context.trees) k.0 ∙ ap (λ ts. listing_by ts old.normal) t in
     let hidden : alias_trees new.context.trees new.opaques ≡ alias_trees old.context.trees old.opaques = ap (alias_trees new.context.trees) k.1 ∙ ap (λ ts. alias_trees ts old.opaques) t in
     let read : table_of new ≡ table_of old = ap (table_seen new.context.trees) k.2 ∙ ap (λ ts. table_seen ts old.goals.table) t in
-    λ i. record { world = world_of (d i); local_crate = (n i).0; limits = b i; listing = listed i; opaques = hidden i; table = read i }
+    let noted = notes-kept old new k in
+    λ i. record { world = world_of (d i); local_crate = (n i).0; limits = b i; listing = listed i; opaques = hidden i; table = read i; notes = noted i }
 
 pub keeps-all : (old new : Evaluator) → Grows old.context new.context → KeepsGiven old new → IsGiven old.context.trees old.normal.pairs old.opaques → IsTabled old.context.trees old.goals → probes new ≡ probes old
     → NoFault old.context new.context → Keeps fixed probes (λ r. r.context) old new

@@ -83,7 +83,7 @@ use Rattle.candidate_rounds.specs.Evaluators.Known.{Evaluator, IsGiven, listing,
 use Rattle.candidate_rounds.specs.Table.DerivedNormals.{GrantedIsDerived, IsSureNormal, SureIsDerived, as_type, by_rule, is_rigid, where_asked}
 use Rattle.candidate_rounds.specs.Table.Goals.{Via}
 use Rattle.candidate_rounds.specs.Table.Normalizing.{rounds_shown, term_goal, with_term}
-use Rattle.candidate_rounds.specs.Table.Running.{with_table}
+use Rattle.candidate_rounds.specs.Table.Running.{judged_by, with_table}
 use Rattle.candidate_rounds.proofs.Table.KeysStand.{listed-fit}
 use Rattle.candidate_rounds.proofs.Table.Normalizing.{After, Keeping, keeping-of}
 use Rattle.candidate_rounds.proofs.Table.NormalsGranted.{NormalStands, normal_goal, rigid-granted, sure-granted, term-stands-there}
@@ -253,7 +253,7 @@ module _ (f : Fixed) (w : World) (listed : ListedFit w (well_listed f.listing)) 
 -- So does the answer under a derived table, and what it rests on is derived.
 
 module _ (r x y : Evaluator) (T : GoalTable Via) (k : Key) (item : ℕ) (given : IsGiven r.context.trees r.normal.pairs r.opaques) (table : TableIsDerived r.context (listing r) T) (grows : Grows r.context x.context)
-    (same : fixed x ≡ with_table (fixed r) T) (begins : state x ≡ start_of r.mode (with_term k)) (env : ParamEnv) (goal : NormalizesTo) (says : normalizes_goal x.context.trees env goal ≡ term_goal item k)
+    (same : judged_by x ≡ with_table (fixed r) T) (begins : state x ≡ start_of r.mode (with_term k)) (env : ParamEnv) (goal : NormalizesTo) (says : normalizes_goal x.context.trees env goal ≡ term_goal item k)
     (asked : may_be_asked k ≡ true) (well : IsWellFormedTable x.context) (few : IsCounted x.context) (own : IsGiven x.context.trees x.normal.pairs x.opaques) where
   granted-here : ByDeclared x.context (λ d. TableIsClean (listing r) T → GrantedIsDerived d (listing r) (judge_of (with_table (fixed r) T)))
   granted-here =

@@ -42,7 +42,7 @@ use Rattle.projection_goals.specs.Equations.{rigid_response}
 use Rattle.projection_goals.specs.Normalizing.{normalizes_goal, normalizes_kind, normalizes_rules, trait_named}
 use Rattle.candidate_rounds.specs.Evaluators.Interface.{fixed}
 use Rattle.candidate_rounds.specs.Evaluators.Known.{Evaluator, probes, table_of}
-use Rattle.candidate_rounds.specs.Table.Running.{StaysBesideTable, with_table}
+use Rattle.candidate_rounds.specs.Table.Running.{StaysBesideTable, judged_by, with_table}
 use Rattle.candidate_rounds.specs.Table.Goals.{IsKeyOf, IsTraitGoal, Via, goal_seen, key_seen}
 use Rattle.ir_trees.specs.declared.ir.kinds.AliasTy.{AliasTy}
 use Rattle.ir_trees.specs.declared.ir.kinds.TraitPredicate.{TraitPredicate}
@@ -270,7 +270,7 @@ answer-fits ts (Err N.NoSolution) h = tt
 answer-fits ts (Err (N.Stop s)) h = tt
 
 -- By what the evaluator answers that stays beside its table.
-pub fixed-there : (r m : Evaluator) → StaysBesideTable r m → table_of m ≡ table_of r → fixed m ≡ with_table (fixed r) (table_of r)
+pub fixed-there : (r m : Evaluator) → StaysBesideTable r m → table_of m ≡ table_of r → judged_by m ≡ with_table (fixed r) (table_of r)
 fixed-there r m h e = (λ i. with_table (h.fixed_same i) (e i))
 
 -- How a goal was proved that may hold.

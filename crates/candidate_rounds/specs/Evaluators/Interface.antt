@@ -1,5 +1,5 @@
 -- What an evaluator of rounds is to generic code.
-use Rattle.std.specs.Prelude.{◌≡◌, ℕ, false, List, Option, None, unwrap_or, refl, Some}
+use Rattle.std.specs.Prelude.{◌≡◌, ℕ, Bool, false, List, Option, None, unwrap_or, refl, Some}
 use Rattle.std.proofs.Common.{ap}
 use Rattle.ir_trees.specs.declared.ir.heads.Head.{Head}
 use Rattle.ir_trees.specs.declared.ir.heads.Head.TheVariants as H
@@ -19,10 +19,10 @@ use Rattle.rounds_judge.specs.Table.TableJudge.{table_judge}
 use Rattle.rounds_judge.specs.Aliases.WellListed.{well_listed}
 use Rattle.rounds_judge.specs.Equations.Opening.{equation}
 use Rattle.candidate_rounds.specs.Table.Goals.{Via}
-use Rattle.candidate_rounds.specs.Evaluators.Known.{Evaluator, listing, probes, state, table_of}
+use Rattle.candidate_rounds.specs.Evaluators.Known.{Evaluator, listing, notes_of, probes, state, table_of}
 
 -- What stays fixed while goals are computed: what is declared, the crate, where walks end, what it was given, and the table that the last
--- round left, by trees.
+-- round left, by trees, with what is noted beside its goals.
 pub record Fixed : Type 0 where
   pub world : World
   pub local_crate : ℕ
@@ -30,9 +30,10 @@ pub record Fixed : Type 0 where
   pub listing : Listing
   pub opaques : List Tree
   pub table : GoalTable Via
+  pub notes : List Bool
 
 abbrev pub fixed : Evaluator → Fixed
-fixed r = record { world = world r.context; local_crate = r.context.local.0; limits = r.context.limits; listing = listing r; opaques = alias_trees r.context.trees r.opaques; table = table_of r }
+fixed r = record { world = world r.context; local_crate = r.context.local.0; limits = r.context.limits; listing = listing r; opaques = alias_trees r.context.trees r.opaques; table = table_of r; notes = notes_of r }
 
 -- The laws speak of all that could be given; an evaluator's listed pairs all may be listed, and of the table it reads what may be read.
 abbrev pub judge_of : Fixed → Judge

@@ -32,7 +32,8 @@ use Rattle.rounds_judge.specs.Table.GoalTable.{GoalTable, well_entered}
 use Rattle.rounds_judge.specs.Aliases.Listed.{Listing}
 use Rattle.rounds_judge.specs.Equations.Standing.{AreResolved, IsListing}
 use Rattle.derivations.specs.DerivedTables.{TableIsDerived}
-use Rattle.candidate_rounds.specs.Table.Goals.{Goals, IsTabled, Reads, Via, table_seen}
+use Rattle.candidate_rounds.specs.Table.Entries.{GoalEntry}
+use Rattle.candidate_rounds.specs.Table.Goals.{Goals, IsTabled, Reads, Via, table_seen, without_noted}
 pub use Rattle.candidate_rounds.specs.Table.Goals.{Each}
 use Rattle.candidate_rounds.specs.Evaluators.Inferences.{Inference, IsFurther, back_to}
 
@@ -244,6 +245,14 @@ leaving r gs = Some (pendings_of r.context.trees gs, state r)
 
 abbrev pub table_of : Evaluator → GoalTable Via
 table_of r = table_seen r.context.trees r.goals.table
+
+-- of each goal of the table, whether it is noted that its verdict may rest on a region that leaks
+abbrev pub notes_of : Evaluator → List Bool
+notes_of r = map (λ (e : GoalEntry). e.1.leaks) r.goals.table
+
+-- The part of the table that is sure: nothing is written there for the goals of which that is noted.
+abbrev pub sure_of : Evaluator → GoalTable Via
+sure_of r = without_noted (notes_of r) (table_of r)
 
 abbrev pub reading : Evaluator → GoalTable Via
 reading r = well_entered (table_of r)

@@ -9,6 +9,8 @@ use Rattle.ir_trees.specs.declared.ir.kinds.RegionKind.{RegionKind}
 use Rattle.ir_trees.specs.declared.ir.kinds.RegionKind.TheVariants as R
 use Rattle.ir_trees.specs.Hierarchy.Supers.{after_first}
 use Rattle.ir_trees.specs.Syntax.Trees.{none, tree, Tree, tree_holds}
+use Rattle.candidate_eval.specs.declared.eval.variable.CanonicalVar.{CanonicalVar}
+use Rattle.candidate_eval.specs.Outcomes.Responses.{Response}
 use Rattle.candidate_eval.specs.Judges.States.{State, VariableInfo}
 
 -- it is one of these
@@ -68,3 +70,7 @@ universes_in S = map (λ (i : VariableInfo). i.universe) S.variables
 pub data Leaks (above : ℕ) (S : State) : Type 0 where
   by_value : (i : VariableInfo) → IsAmong S.variables i → ValueLeaks above i → Leaks above S
   by_regions : RegionsLeak (IsRecorded S.regions) above (universes_in S) → Leaks above S
+
+-- What a response says of regions doesn't hold for every placeholder, be it of the root universe's or not.
+abbrev pub ResponseLeaks : Response → Type 0
+ResponseLeaks r = RegionsLeak (IsRecorded r.regions) 0 (map (λ (x : CanonicalVar). x.universe) r.vars)

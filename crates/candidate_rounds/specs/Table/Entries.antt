@@ -1,5 +1,5 @@
 -- The goals of an evaluator by their numbers: those of its table, and after them those that were asked for.
-use Rattle.std.specs.Prelude.{◌≡◌, ◌≤◌, ℕ, zero, suc, Bool, true, false, Option, Some, None, List, [], ◌∷◌, map, length, take, drop}
+use Rattle.std.specs.Prelude.{◌≡◌, ◌≤◌, ℕ, zero, suc, Bool, true, false, Option, Some, None, List, [], ◌∷◌, map, length, slice_get, take, drop}
 use Rattle.std.specs.Map.{keys_of}
 use Rattle.candidate_rounds.specs.declared.rounds.goals.GoalKey.{GoalKey}
 use Rattle.candidate_rounds.specs.declared.rounds.goals.Slot.{Slot}
@@ -10,9 +10,14 @@ use Rattle.candidate_rounds.specs.Table.KeyNumbers.{same_numbers}
 abbrev pub GoalEntry : Type 0
 GoalEntry = GoalKey × Slot
 
+-- whether what is written for a goal, if there is one, may rest on a region that leaks
+abbrev pub maybe_leaks : Option GoalEntry → Bool
+maybe_leaks None = false
+maybe_leaks (Some e) = e.1.leaks
+
 -- nothing is known
 abbrev pub new_slot : Slot
-new_slot = record { verdict = None; is_readable = true }
+new_slot = record { verdict = None; is_readable = true; leaks = false }
 
 abbrev pub new_entry : GoalKey → GoalEntry
 new_entry k = (k, new_slot)
@@ -40,12 +45,16 @@ pub record AreAsked (n : ℕ) (es : List GoalEntry) : Type 0 where
 
 abbrev pub write_verdict : GoalEntry → Option Written → GoalEntry
 write_verdict e None = e
-write_verdict e (Some w) = (e.0, record { verdict = Some w.verdict; is_readable = w.is_readable })
+write_verdict e (Some w) = (e.0, record { verdict = Some w.verdict; is_readable = w.is_readable; leaks = w.leaks })
 
 abbrev pub all_written_into : List GoalEntry → List (Option Written) → List GoalEntry
 all_written_into [] ws = []
 all_written_into (e ∷ es) [] = e ∷ es
 all_written_into (e ∷ es) (w ∷ ws) = write_verdict e w ∷ all_written_into es ws
+
+-- whether what is written for the goal of a place may rest on a region that leaks
+abbrev pub leaks_at : List GoalEntry → ℕ → Bool
+leaks_at es n = maybe_leaks (slice_get es n)
 
 -- whether a round has something for a place
 abbrev pub has_one : Option (Option Written) → Bool

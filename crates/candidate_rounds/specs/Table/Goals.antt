@@ -1,5 +1,5 @@
 -- The goals of a table, by numbers of a context.
-use Rattle.std.specs.Prelude.{◌≡◌, ◌≤◌, ◌<◌, ◌+◌, Bool, true, false, Option, Some, List, [], ◌∷◌, ◌++◌, map, length, if◌then◌else◌}
+use Rattle.std.specs.Prelude.{◌≡◌, ◌≤◌, ◌<◌, ◌+◌, Bool, true, false, Option, Some, None, List, [], ◌∷◌, ◌++◌, map, length, if◌then◌else◌}
 use Rattle.std.specs.List.{list_any}
 use Rattle.std.specs.Map.{keys_of}
 use Rattle.std.specs.Option.{option_map}
@@ -92,6 +92,17 @@ entry_seen ts e = entry_of ts e.0 e.1.verdict
 
 abbrev pub table_seen : List Tree → List GoalEntry → GoalTable Via
 table_seen ts es = map (entry_seen ts) es
+
+-- What is noted beside a verdict takes it away; and so in a table, goal by goal.
+
+abbrev pub unless_noted : {A : Type 0} → Bool → Option A → Option A
+unless_noted true v = None
+unless_noted false v = v
+
+abbrev pub without_noted : List Bool → GoalTable Via → GoalTable Via
+without_noted [] es = es
+without_noted (b ∷ bs) [] = []
+without_noted (b ∷ bs) (e ∷ es) = record { key = e.key; verdict = unless_noted b e.verdict } ∷ without_noted bs es
 
 abbrev pub keys_seen : List Tree → List GoalKey → List Key
 keys_seen ts ks = map (key_seen ts) ks

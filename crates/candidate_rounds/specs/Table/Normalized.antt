@@ -15,7 +15,7 @@ use Rattle.candidate_rounds.specs.Evaluators.Interface.{fixed}
 use Rattle.candidate_rounds.specs.Evaluators.Known.{Evaluator, state, table_of}
 use Rattle.candidate_rounds.specs.Evaluators.Stopping.{IsGoalKeyStop}
 use Rattle.candidate_rounds.specs.Table.Goals.{Via}
-use Rattle.candidate_rounds.specs.Table.Running.{IsLeftStopped, computing, with_table}
+use Rattle.candidate_rounds.specs.Table.Running.{IsLeftStopped, computing, judged_by, with_table}
 use Rattle.projection_goals.specs.declared.kind.NormalizesTo.{NormalizesTo}
 use Rattle.projection_goals.specs.Closures.{always, answers_rigid}
 use Rattle.projection_goals.specs.Normalizing.{normalizes_goal, normalizes_kind}
@@ -35,7 +35,7 @@ pub record IsNormalizedBy (ts : List Tree) (r : Evaluator) (T : GoalTable Via) (
   -- the trees are those that the call leaves
   pub left_trees : left.context.trees ≡ ts
   pub grows : Grows r.context first.context
-  pub fixed_same : fixed first ≡ with_table (fixed r) T
+  pub fixed_same : judged_by first ≡ with_table (fixed r) T
   pub begins : state first ≡ start_of r.mode (with_term k)
   pub env : ParamEnv
   pub goal : NormalizesTo

@@ -51,9 +51,13 @@ abbrev pub IsAnswer : List Tree → Option (CanonicalResponse × Option Via) →
 IsAnswer ts None = Unit {0}
 IsAnswer ts (Some a) = IsResponse ts a.0
 
--- what stays fixed, with another table
+-- what stays fixed, with another table, beside which nothing is noted
 abbrev pub with_table : Fixed → GoalTable Via → Fixed
-with_table f T = record f { table = T }
+with_table f T = record f { table = T; notes = [] }
+
+-- what of it an evaluator's judge goes by: its table, and nothing that is noted
+abbrev pub judged_by : Evaluator → Fixed
+judged_by r = with_table (fixed r) (table_of r)
 
 -- What the goal of a key comes to at its start, for an evaluator's judge that reads the table. The context is one to which the evaluator's
 -- grew, and nothing is wrong with what it declares. The answer carries what `compute_trait_goal` promises: what a sure answer rests on, and
@@ -143,7 +147,7 @@ pub record IsDoneBelow (A : PureFolder Via) (k : Key) (rounds : ℕ) (T U : Goal
 pub record IsComputingStop (ts : List Tree) (r : Evaluator) (T : GoalTable Via) (k : Key) (s : Stop) : Type 0 where
   pub first : Evaluator
   pub grows : Grows r.context first.context
-  pub fixed_same : fixed first ≡ with_table (fixed r) T
+  pub fixed_same : judged_by first ≡ with_table (fixed r) T
   pub begins : state first ≡ start_of r.mode k
   pub last : Evaluator
   pub among : Extends last.context.trees ts

@@ -21,7 +21,7 @@ use Rattle.candidate_rounds.specs.Evaluators.Interface.{fixed, judge_of}
 use Rattle.candidate_rounds.specs.Evaluators.Known.{Evaluator, state, table_of}
 use Rattle.candidate_rounds.specs.Evaluators.Stopping.{IsGoalKeyStop, accounts}
 use Rattle.candidate_rounds.specs.Table.Goals.{Via, key_seen}
-use Rattle.candidate_rounds.specs.Table.Running.{with_table}
+use Rattle.candidate_rounds.specs.Table.Running.{judged_by, with_table}
 use Rattle.candidate_rounds.specs.Table.Steps.{entries_of}
 
 -- Why the candidates for the goal of a key weren't listed at its start, by a judge that reads the table: their list comes to the stop of a
@@ -29,7 +29,7 @@ use Rattle.candidate_rounds.specs.Table.Steps.{entries_of}
 pub record IsListingStop (ts : List Tree) (r : Evaluator) (T : GoalTable Via) (k : Key) (s : Stop) : Type 0 where
   pub first : Evaluator
   pub grows : Grows r.context first.context
-  pub fixed_same : fixed first ≡ with_table (fixed r) T
+  pub fixed_same : judged_by first ≡ with_table (fixed r) T
   pub begins : state first ≡ start_of r.mode k
   pub last : Evaluator
   pub among : Extends last.context.trees ts

@@ -385,6 +385,7 @@ impl Rounds {
         Ok(Slot {
             verdict: Some(verdict),
             is_readable,
+            leaks: false,
         })
     }
 

@@ -99,6 +99,8 @@ pub(crate) struct Slot {
     /// Whether goals that ask read the verdict. They do not read a Yes whose values aren't closed trees of the variables that it
     /// leaves open.
     pub is_readable: bool,
+    /// Whether the verdict may rest on a region that leaks.
+    pub leaks: bool,
 }
 
 /// The table, and the goals that were asked for since the last round and aren't in it.
@@ -133,6 +135,7 @@ pub(crate) fn new_slot() -> Slot
     Slot {
         verdict: None,
         is_readable: true,
+        leaks: false,
     }
 }
 

@@ -6,16 +6,21 @@ ghost use Rattle.ir_trees.specs.declared.ir.stop.Stop.{Stop};
 ghost use Rattle.ir_trees.specs.declared.ir.kinds.RegionKind.{RegionKind};
 ghost use Rattle.ir_trees.specs.declared.ir.kinds.RegionKind.TheVariants as R;
 ghost use Rattle.ir_trees.specs.Syntax.Words.{IsClause, clause_tree};
+ghost use Rattle.candidate_eval.specs.Outcomes.ResponseTrees.{IsResponse, response_of};
 ghost use Rattle.candidate_eval.specs.declared.eval.mode.TypingMode.{TypingMode};
+ghost use Rattle.candidate_eval.specs.declared.eval.variable.CanonicalVar.{CanonicalVar};
 ghost use Rattle.candidate_rounds.specs.declared.rounds.inference.Entry.{Entry};
 ghost use Rattle.candidate_rounds.specs.declared.rounds.leaking.RegionOutlives.{RegionOutlives};
 ghost use Rattle.candidate_rounds.specs.Calls.Leaking.{AreOutlived, AreSaid, IsSaid, IsSaidOf};
 ghost use Rattle.candidate_rounds.specs.Evaluators.Known.{Each, IsEntry, IsKnown, info_of, state, state_of};
-ghost use Rattle.candidate_rounds.specs.Evaluators.Leaking.{CantName, IsAmong, IsRecorded, Leaks, OutlivesTooMuch, RegionsLeak, SaysOutlives, ValueLeaks, is_region_above};
+ghost use Rattle.candidate_rounds.specs.Evaluators.Leaking.{CantName, IsAmong, IsRecorded, Leaks, OutlivesTooMuch, RegionsLeak, ResponseLeaks, SaysOutlives, ValueLeaks, is_region_above};
+ghost use Rattle.candidate_rounds.specs.Table.Entries.{leaks_at};
 
 use crate::rounds::Rounds;
 use crate::rounds::inference::{Entry, Inference};
 use crate::rounds::walking::has_marked;
+use candidate_eval::eval::response::CanonicalResponse;
+use candidate_eval::eval::variable::CanonicalVar;
 use ir_context::decl::context::Cx;
 use ir_trees::ir::heads::Marks;
 use ir_trees::ir::kinds::{Clause, ClauseKind, Placeholder, RegionKind};
@@ -253,6 +258,18 @@ fn universes_of(alloc: Global, entries: &[Entry]) -> Result<Vec<u32>, Stop>
     Ok(list)
 }
 
+/// The universes of the variables that a response leaves open.
+fn universes_left(alloc: Global, variables: &[CanonicalVar]) -> Result<Vec<u32>, Stop>
+    ensures are { IfOk result (λ v. v.items ≡ map (λ (x : CanonicalVar). x.universe) variables.now) }
+    ensures cause { IfErr result (λ s. s ≡ Stop.Memory) }
+{
+    let mut list = Vec::new(alloc);
+    for i in 0..variables.len() {
+        list.push(variables[i].universe)?;
+    }
+    Ok(list)
+}
+
 /// Whether a placeholder of a universe above that one leaks, by what is known.
 fn leaks_in(alloc: Global, cx: &Cx, inference: &Inference, above: u32) -> Result<bool, Stop>
     requires { IsKnown cx.now.trees inference.now }
@@ -273,6 +290,54 @@ impl Rounds {
         ensures { result ≡ (state self.now).newest_universe }
     {
         self.inference.newest_universe()
+    }
+
+    /// It is noted whether the goal which is computed rests on a region that leaks, besides what is noted already.
+    pub(crate) fn note_leak(&mut self, leaks: bool)
+        ensures { self.new ≡ self.old }
+    {
+        if leaks {
+            self.leaks = true;
+        }
+    }
+
+    /// Whether a placeholder leaks of a universe that is newer than those which came with the goal that is computed. The only stop is
+    /// `Stop::Memory`.
+    pub(crate) fn leaks_newly(&self, alloc: Global) -> Result<bool, Stop>
+        ensures { IfErr result (λ s. s ≡ Stop.Memory) }
+    {
+        if self.inference.newest_universe() <= self.above {
+            return Ok(false);
+        }
+        self.leaks_above(alloc, self.above)
+    }
+
+    /// Whether what is written for the goal of that place may rest on a region that leaks.
+    pub(crate) fn leaks_at(&self, place: usize) -> bool
+        ensures { result ≡ leaks_at self.now.goals.table place }
+    {
+        if place >= self.goals.len() {
+            return false;
+        }
+        self.goals.entry_at(place).1.leaks
+    }
+
+    /// Whether the constraints of a response ask of a placeholder to outlive a region that can't name it, whatever regions came with the
+    /// goal. The only stop is `Stop::Memory`.
+    pub fn response_leaks(&self, alloc: Global, response: &CanonicalResponse) -> Result<bool, Stop>
+        requires { IsResponse self.now.context.trees response.now }
+        ensures yes { IfOk result (λ b. b ≡ true → ResponseLeaks (response_of self.now.context.trees response.now)) }
+        ensures no { IfOk result (λ b. b ≡ false → ResponseLeaks (response_of self.now.context.trees response.now) → ⊥) }
+        ensures cause { IfErr result (λ s. s ≡ Stop.Memory) }
+    {
+        let universes = universes_left(alloc, response.vars.as_slice())?;
+        regions_leak(
+            alloc,
+            &self.cx,
+            0,
+            universes.as_slice(),
+            response.regions.as_slice(),
+        )
     }
 
     /// Whether a region's placeholder of a universe above that one leaks, by what is known: it stands in the value of a variable that can't

@@ -13,7 +13,7 @@ ghost use Rattle.candidate_assembly.specs.Goals.KindShown.{IsGoal};
 ghost use Rattle.candidate_assembly.specs.Goals.Standing.{GoalIsValid};
 ghost use Rattle.candidate_rounds.specs.Calls.Starting.{started};
 ghost use Rattle.candidate_rounds.specs.Evaluators.Inferences.{IsFullAt};
-ghost use Rattle.candidate_rounds.specs.Evaluators.Known.{GoesOn, listing, state, table_of};
+ghost use Rattle.candidate_rounds.specs.Evaluators.Known.{GoesOn, listing, state, sure_of, table_of};
 ghost use Rattle.candidate_rounds.specs.Table.Entries.{new_entry};
 ghost use Rattle.candidate_rounds.specs.Table.Goals.{IsKeyOf, key_seen, verdict_seen};
 ghost use Rattle.candidate_rounds.specs.Table.Normalized.{IsLeftAfter, IsNormalized, IsNormalizedAt, IsNotBegun, as_answer, proved_via};
@@ -222,6 +222,7 @@ impl Rounds {
         requires { IsArgs self.old.context.trees args }
         ensures stays { StaysBesideTable self.old self.new }
         ensures table { table_of self.new ≡ table_of self.old }
+        ensures sure { sure_of self.new ≡ sure_of self.old }
         ensures faults { NoFault self.old.context self.new.context }
         ensures sort { IfOk result (λ a. IsArgs self.new.context.trees a) }
         ensures trees { let f = args_forest self.old.context.trees args in IfOk result (λ a. args_forest self.new.context.trees a ≡ renumbered (with_numbers [] f) f) }

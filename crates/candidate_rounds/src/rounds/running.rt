@@ -14,8 +14,8 @@ ghost use Rattle.candidate_assembly.specs.Goals.TraitGoals.{trait_goal};
 ghost use Rattle.candidate_assembly.specs.Goals.TraitRules.{trait_rules};
 ghost use Rattle.candidate_eval.specs.Interface.Noting.{IsNotingStop};
 ghost use Rattle.candidate_eval.specs.Outcomes.ResponseTrees.{IsCopy};
-ghost use Rattle.candidate_rounds.specs.Table.Goals.{Each, IsEntryOf, IsKeyOf, IsTraitGoal, IsVerdict, Via, entry_of, entry_seen, goal_seen, key_seen, table_seen, verdict_seen};
-ghost use Rattle.candidate_rounds.specs.Evaluators.Known.{GoesOn, IsEvaluator, listing, probes, state, table_of};
+ghost use Rattle.candidate_rounds.specs.Table.Goals.{Each, IsEntryOf, IsKeyOf, IsTraitGoal, IsVerdict, Via, entry_of, entry_seen, goal_seen, key_seen, table_seen, unless_noted, verdict_seen};
+ghost use Rattle.candidate_rounds.specs.Evaluators.Known.{GoesOn, IsEvaluator, listing, probes, state, sure_of, table_of};
 ghost use Rattle.candidate_rounds.specs.Evaluators.Interface.{fixed, judge_of};
 ghost use Rattle.candidate_rounds.specs.Calls.Starting.{started};
 ghost use Rattle.candidate_rounds.specs.Calls.Writing.{ChangeTableOf};
@@ -193,7 +193,7 @@ fn goal_in(
 }
 
 impl Rounds {
-    /// What is known is put aside: that is known from now on, and no probe is open.
+    /// What is known is put aside: that is known from now on, and no probe is open. Nothing is noted of leaks yet.
     pub(crate) fn suspend_state(&mut self, alloc: Global, inference: Inference) -> Suspended
         requires { IsEvaluator self.old.context inference [] self.old.normal self.old.opaques self.old.goals }
         ensures out { self.new ≡ record self.old { inference = inference; marks = [] } }
@@ -201,6 +201,8 @@ impl Rounds {
         ensures inference { result.inference ≡ self.old.inference }
         ensures probes { reverse result.probes.items ≡ self.old.marks }
     {
+        self.above = inference.newest_universe();
+        self.leaks = false;
         Suspended {
             mode: self.mode,
             inference: std::mem::replace(&mut self.inference, inference),
@@ -284,6 +286,7 @@ impl Rounds {
         Ok(Written {
             verdict,
             is_readable,
+            leaks: self.leaks,
         })
     }
 
@@ -622,6 +625,7 @@ impl Rounds {
         requires { IsGoal trait_kind self.old.context param_env predicate }
         ensures stays { StaysBesideTable self.old self.new }
         ensures table { table_of self.new ≡ table_of self.old }
+        ensures sure { sure_of self.new ≡ sure_of self.old }
         ensures sort { IfOk result (λ o. IsVerdict self.new.context.trees o) }
         ensures faults { NoFault self.old.context self.new.context }
         ensures yes { IfOk result (λ o. IsDerivedFor self.new (key_at (state self.old) (trait_goal self.old.context.trees param_env predicate)) o) }
@@ -633,6 +637,29 @@ impl Rounds {
         match self.place_of(&key) {
             Some(place) => self.copied_at(place),
             None => Ok(None),
+        }
+    }
+
+    /// Whether what was last written for the goal may rest on a region that leaks. Nodes are made, and nothing else is changed. It stops as
+    /// `entry` does.
+    pub fn entry_leaks(
+        &mut self,
+        alloc: Global,
+        param_env: ParamEnv,
+        predicate: TraitPredicate,
+    ) -> Result<bool, Stop>
+        requires { IsGoal trait_kind self.old.context param_env predicate }
+        ensures stays { StaysBesideTable self.old self.new }
+        ensures table { table_of self.new ≡ table_of self.old }
+        ensures sure { sure_of self.new ≡ sure_of self.old }
+        ensures is { let r = self.old in let k = key_at (state r) (trait_goal r.context.trees param_env predicate) in IfOk result (λ b. verdict_in (sure_of r) k ≡ unless_noted b (verdict_in (table_of r) k)) }
+        ensures cause { IfErr result (λ s. IsGoalKeyStop self.new.context.trees (state self.old) (trait_goal self.old.context.trees param_env predicate) s) }
+    {
+        self.recall_well_kept();
+        let key = self.key_for(alloc, param_env, predicate)?;
+        match self.place_of(&key) {
+            Some(place) => Ok(self.leaks_at(place)),
+            None => Ok(false),
         }
     }
 

@@ -98,6 +98,8 @@ impl Rounds {
             goals: Goals::new(alloc),
             inference: Inference::new(alloc),
             probes: Vec::new(alloc),
+            above: 0,
+            leaks: false,
         }
     }
 

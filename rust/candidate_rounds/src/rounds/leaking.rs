@@ -7,6 +7,8 @@ use kit::{eprintln, format, prelude::*, print, println, vec};
 use crate::rounds::Rounds;
 use crate::rounds::inference::{Entry, Inference};
 use crate::rounds::walking::has_marked;
+use candidate_eval::eval::response::CanonicalResponse;
+use candidate_eval::eval::variable::CanonicalVar;
 use ir_context::decl::context::Cx;
 use ir_trees::ir::heads::Marks;
 use ir_trees::ir::kinds::{Clause, ClauseKind, Placeholder, RegionKind};
@@ -208,6 +210,16 @@ fn universes_of(alloc: Global, entries: &[Entry]) -> Result<Vec<u32>, Stop>
     Ok(list)
 }
 
+/// The universes of the variables that a response leaves open.
+fn universes_left(alloc: Global, variables: &[CanonicalVar]) -> Result<Vec<u32>, Stop>
+{
+    let mut list = Vec::new(alloc);
+    for i in 0..variables.len() {
+        list.push(variables[i].universe)?;
+    }
+    Ok(list)
+}
+
 /// Whether a placeholder of a universe above that one leaks, by what is known.
 fn leaks_in(alloc: Global, cx: &Cx, inference: &Inference, above: u32) -> Result<bool, Stop>
 {
@@ -223,6 +235,47 @@ impl Rounds {
     pub fn newest_universe(&self) -> u32
     {
         self.inference.newest_universe()
+    }
+
+    /// It is noted whether the goal which is computed rests on a region that leaks, besides what is noted already.
+    pub(crate) fn note_leak(&mut self, leaks: bool)
+    {
+        if leaks {
+            self.leaks = true;
+        }
+    }
+
+    /// Whether a placeholder leaks of a universe that is newer than those which came with the goal that is computed. The only stop is
+    /// `Stop::Memory`.
+    pub(crate) fn leaks_newly(&self, alloc: Global) -> Result<bool, Stop>
+    {
+        if self.inference.newest_universe() <= self.above {
+            return Ok(false);
+        }
+        self.leaks_above(alloc, self.above)
+    }
+
+    /// Whether what is written for the goal of that place may rest on a region that leaks.
+    pub(crate) fn leaks_at(&self, place: usize) -> bool
+    {
+        if place >= self.goals.len() {
+            return false;
+        }
+        self.goals.entry_at(place).1.leaks
+    }
+
+    /// Whether the constraints of a response ask of a placeholder to outlive a region that can't name it, whatever regions came with the
+    /// goal. The only stop is `Stop::Memory`.
+    pub fn response_leaks(&self, alloc: Global, response: &CanonicalResponse) -> Result<bool, Stop>
+    {
+        let universes = universes_left(alloc, response.vars.as_slice())?;
+        regions_leak(
+            alloc,
+            &self.cx,
+            0,
+            universes.as_slice(),
+            response.regions.as_slice(),
+        )
     }
 
     /// Whether a region's placeholder of a universe above that one leaks, by what is known: it stands in the value of a variable that can't

@@ -353,8 +353,8 @@ fn response(
 }
 
 impl Rounds {
-    /// The response of what is known, with that certainty. Nothing that is pending is evaluated; nodes are made, and nothing else is
-    /// changed. `Stop::Memory` comes where a growth was refused, `Stop::NodesFull` where no numbers are left, a tree would be higher than
+    /// The response of what is known, with that certainty. Nothing that is pending is evaluated; nodes are made, it is noted whether a
+    /// region leaks, and nothing else is changed. `Stop::Memory` comes where a growth was refused, `Stop::NodesFull` where no numbers are left, a tree would be higher than
     /// 1,024, or the variables that are left open or the children of a node are too many. After a stop the nodes that were made stay.
     pub fn make_canonical_response(
         &mut self,
@@ -362,6 +362,8 @@ impl Rounds {
         certainty: Certainty,
     ) -> Result<CanonicalResponse, Stop>
     {
+        let leaks = self.leaks_newly(alloc)?;
+        self.leaks = self.leaks || leaks;
         response(alloc, &mut self.cx, &self.inference, certainty)
     }
 }

@@ -141,9 +141,11 @@ fn goal_in(
 }
 
 impl Rounds {
-    /// What is known is put aside: that is known from now on, and no probe is open.
+    /// What is known is put aside: that is known from now on, and no probe is open. Nothing is noted of leaks yet.
     pub(crate) fn suspend_state(&mut self, alloc: Global, inference: Inference) -> Suspended
     {
+        self.above = inference.newest_universe();
+        self.leaks = false;
         Suspended {
             mode: self.mode,
             inference: kit::mem::replace(&mut self.inference, inference),
@@ -204,6 +206,7 @@ impl Rounds {
         Ok(Written {
             verdict,
             is_readable,
+            leaks: self.leaks,
         })
     }
 
@@ -438,6 +441,25 @@ impl Rounds {
         match self.place_of(&key) {
             Some(place) => self.copied_at(place),
             None => Ok(None),
+        }
+    }
+
+    /// Whether what was last written for the goal may rest on a region that leaks. Nodes are made, and nothing else is changed. It stops as
+    /// `entry` does.
+    pub fn entry_leaks(
+        &mut self,
+        alloc: Global,
+        param_env: ParamEnv,
+        predicate: TraitPredicate,
+    ) -> Result<bool, Stop>
+    {
+        debug_assert!(ir_trees::checks::is_sorted(ir_context::decl::make::Make::cx(&*self), param_env), "candidate_rounds::rounds::running::Rounds::entry_leaks: `param_env` is {:?}, no number of its sort in this context", param_env);
+        debug_assert!(ir_trees::checks::is_sorted(ir_context::decl::make::Make::cx(&*self), predicate.trait_ref.args), "candidate_rounds::rounds::running::Rounds::entry_leaks: `predicate.trait_ref.args` is {:?}, no number of its sort in this context", predicate.trait_ref.args);
+        self.recall_well_kept();
+        let key = self.key_for(alloc, param_env, predicate)?;
+        match self.place_of(&key) {
+            Some(place) => Ok(self.leaks_at(place)),
+            None => Ok(false),
         }
     }
 

@@ -187,8 +187,10 @@ impl Rounds {
             Found::Open => Ok(false),
             Found::Refused => Err(NoSolutionOrStop::NoSolution),
             Found::Yes(place) => {
+                let leaks = self.leaks_at(place);
                 let response = self.yes_at(&asked.key, place)?;
                 self.give(alloc, &asked.key, asked.numbers.as_slice(), &response)?;
+                self.note_leak(leaks);
                 Ok(true)
             }
         }

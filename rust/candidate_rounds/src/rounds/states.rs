@@ -63,6 +63,8 @@ impl Rounds {
             goals: Goals::new(alloc),
             inference: Inference::new(alloc),
             probes: Vec::new(alloc),
+            above: 0,
+            leaks: false,
         }
     }
 

@@ -13,6 +13,7 @@ use kit::indexmap::IndexMap;
 pub(crate) struct Written {
     pub verdict: Verdict,
     pub is_readable: bool,
+    pub leaks: bool,
 }
 
 /// Whether the responses are the same in all their parts.
@@ -66,6 +67,7 @@ fn write_verdict(slot: &mut Slot, written: Option<Written>)
     if let Some(written) = written {
         slot.verdict = Some(written.verdict);
         slot.is_readable = written.is_readable;
+        slot.leaks = written.leaks;
     }
 }
 

@@ -1,7 +1,7 @@
 use Rattle.std.proofs.Common.{Option, Result, IfOk, rules, subst, sym}
 use Rattle.std.specs.Prelude.{IfSome}
 use Rattle.ir_trees.specs.declared.ir.stop.Stop.{Stop}
-use Rattle.candidate_rounds.specs.Evaluators.Known.{table_of}
+use Rattle.candidate_rounds.specs.Evaluators.Known.{sure_of}
 use Rattle.overlaps.specs.declared.overlap.WhereClause.{WhereClause}
 use Rattle.overlaps.specs.Negated.{IsKeptApart}
 use Rattle.assembly_text.specs.Specializing.{IsTesterFor, test_not_made, test_stopped}
@@ -19,7 +19,7 @@ returns-in-Ok-clause-is c =
       left = left;
       tester = made;
       stays = said.stays;
-      is = subst (λ (r : Result (Option WhereClause) Stop). IfOk r (λ q. IfSome q (IsKeptApart c.in-Ok.rounds (table_of left) c.args.first c.args.second))) h said.negated;
+      is = subst (λ (r : Result (Option WhereClause) Stop). IfOk r (λ q. IfSome q (IsKeptApart c.in-Ok.rounds (sure_of left) c.args.first c.args.second))) h said.negated;
       leaves = sym c.context_of.ensures;
     })
 

@@ -4,7 +4,7 @@ use Rattle.candidate_eval.proofs.Dynamic.Objects.{env-kept}
 use Rattle.candidate_rounds.proofs.Table.Running.{stays-trans}
 use Rattle.overlaps.proofs.PureFolder.{impl-earlier}
 use Rattle.candidate_eval.specs.Judges.States.{State}
-use Rattle.candidate_rounds.specs.Evaluators.Known.{state, table_of}
+use Rattle.candidate_rounds.specs.Evaluators.Known.{state, sure_of}
 use Rattle.candidate_rounds.specs.Table.Goals.{Via}
 use Rattle.rounds_judge.specs.Table.GoalTable.{GoalTable}
 use Rattle.overlaps.specs.Uncertain.{ImplHoldsNot}
@@ -37,7 +37,7 @@ returns-clause-hold c =
     IfOk-weaker c.is_impl_answered-2.result _ _
     (λ b h e. record {
       first = c.in_ok-is_impl_answered.ensures.hold c.if-not-branch.false;
-      second = impl-earlier c.args.rounds.now c.is_impl_answered.new.rounds c.args.pair.now.second c.is_impl_answered.ensures.stays c.is_impl_answered.ensures.table c.requires.pair.1 (h e);
+      second = impl-earlier c.args.rounds.now c.is_impl_answered.new.rounds c.args.pair.now.second c.is_impl_answered.ensures.stays c.is_impl_answered.ensures.sure c.requires.pair.1 (h e);
     }) c.is_impl_answered-2.ensures.hold
 
 pub returns-in_err-is_impl_answered-clause-cause : goal.returns-in_err-is_impl_answered-clause-cause
@@ -54,8 +54,11 @@ returns-clause-uncertain c =
     let old = c.args.rounds.now in
     let mid = c.is_impl_answered.new.rounds in
     let o = c.args.pair.now.second in
-    let t = c.is_impl_answered.ensures.table in
+    let t = c.is_impl_answered.ensures.sure in
     let s = c.is_impl_answered.ensures.stays.state_same in
     IfOk-weaker c.is_impl_answered-2.result _ _
-    (λ b h e. inr (impl-not-earlier old.context mid.context (table_of old) (state old) o c.is_impl_answered.ensures.stays.grows c.requires.pair.1
+    (λ b h e. inr (impl-not-earlier old.context mid.context (sure_of old) (state old) o c.is_impl_answered.ensures.stays.grows c.requires.pair.1
     (subst (λ (q : GoalTable Via × State). ImplHoldsNot mid.context q.0 q.1 o) (λ i. (t i, s i)) (h e)))) c.is_impl_answered-2.ensures.uncertain
+
+pub returns-clause-sure : goal.returns-clause-sure
+returns-clause-sure c = c.is_impl_answered-2.ensures.sure ∙ c.is_impl_answered.ensures.sure

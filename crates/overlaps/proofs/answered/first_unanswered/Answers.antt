@@ -49,7 +49,7 @@ loop-number-preserved c =
     let xs = c.args.clauses.now in
     let n = c.loop-number.number in
     let x = slice_index_or xs n (record { 0 = 0 }) in
-    one-answered c.args.rounds.now c.loop-number.rounds c.is_clause_answered.new.rounds c.args.env c.args.locals xs n x c.loop-number.invariant c.is_clause_answered.ensures.stays c.is_clause_answered.ensures.table c.requires.env c.requires.locals
+    one-answered c.args.rounds.now c.loop-number.rounds c.is_clause_answered.new.rounds c.args.env c.args.locals xs n x c.loop-number.invariant c.is_clause_answered.ensures.stays c.is_clause_answered.ensures.table c.is_clause_answered.ensures.sure c.requires.env c.requires.locals
     c.requires.clauses.fit (got-there xs n (record { 0 = 0 }) c.loop-number-test.true) (c.in_ok-is_clause_answered.ensures.holds c.if-not-branch.false)
 
 pub returns-clause-stays : goal.returns-clause-stays
@@ -70,5 +70,14 @@ returns-then-not-branch-clause-uncertain c =
     let xs = c.args.clauses.now in
     let n = c.loop-number.number in
     let x = slice_index_or xs n (record { 0 = 0 }) in
-    one-not c.args.rounds.now c.loop-number.rounds c.args.env c.args.locals xs n x c.loop-number.invariant.asked c.requires.env c.requires.locals c.requires.clauses.fit (got-there xs n (record { 0 = 0 }) c.loop-number-test.true)
+    one-not c.args.rounds.now c.loop-number.rounds c.args.env c.args.locals xs n x (record { stays = c.loop-number.invariant.asked.stays; sure = c.loop-number.invariant.sure }) c.requires.env c.requires.locals c.requires.clauses.fit (got-there xs n (record { 0 = 0 }) c.loop-number-test.true)
     (c.in_ok-is_clause_answered.ensures.uncertain c.if-not-branch.true)
+
+pub returns-in_err-is_clause_answered-clause-sure : goal.returns-in_err-is_clause_answered-clause-sure
+returns-in_err-is_clause_answered-clause-sure c = c.is_clause_answered.ensures.sure ∙ c.loop-number.invariant.sure
+
+pub returns-then-not-branch-clause-sure : goal.returns-then-not-branch-clause-sure
+returns-then-not-branch-clause-sure c = c.is_clause_answered.ensures.sure ∙ c.loop-number.invariant.sure
+
+pub returns-clause-sure : goal.returns-clause-sure
+returns-clause-sure c = c.loop-number.invariant.sure

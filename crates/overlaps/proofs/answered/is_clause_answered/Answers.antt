@@ -9,7 +9,7 @@ use Rattle.candidate_eval.specs.Dynamic.ObjectRequirements.{arguments_of, trait_
 use Rattle.candidate_eval.specs.Judges.States.{resolved_tree}
 use Rattle.candidate_rounds.specs.Evaluators.Known.{state}
 use Rattle.overlaps.specs.Answered.{is_outlives}
-use Rattle.overlaps.proofs.PureFolder.{StaysAsAsked, asked-kept, asked-then, clause-answered, clause-assumed}
+use Rattle.overlaps.proofs.PureFolder.{asked-kept, asked-then, clause-answered, clause-assumed, sure-kept, sure-then, sure-twice}
 use Rattle.ir_trees.specs.Declarations.References.{ArgumentsFit}
 use Rattle.overlaps.proofs.Uncertainty.{clause-says-else, clause-unanswered}
 use Rattle.overlaps.proofs.Stopping.{asking-stop, later-kept, later-refl, later-then, passed-on, stop-later, substitute-somehow}
@@ -95,8 +95,7 @@ returns-clause-holds c =
     let x = c.in_ok-clause-2.clause in
     let p = c.in-Some.predicate in
     let t = substituted_tree (args_forest ts c.args.locals) (clause_tree ts c.args.clause) in
-    let more = asked-kept c.resolve_clause_if_possible.ensures.kept c.resolve_clause_if_possible.ensures.same in
-    let so : StaysAsAsked old mid = asked-then (asked-kept c.substitute.ensures.kept c.substitute.ensures.same) more.stays more.table in
+    let so = sure-twice c.substitute.ensures.kept c.substitute.ensures.same c.resolve_clause_if_possible.ensures.kept c.resolve_clause_if_possible.ensures.same in
     let is : clause_tree mid.context.trees x ≡ resolved_tree (state old) t
     = c.in_ok-clause-2.ensures.tree ∙ (ap (λ S. resolved_tree S (clause_tree c.substitute.new.ecx.context.trees c.in_ok-clause.clause)) c.substitute.ensures.same ∙ ap (resolved_tree (state old)) c.in_ok-clause.ensures.tree) in
     let said = subst (λ (y : Context). trait_said (clause_tree y.trees x).head ≡ Some (p.trait_ref.def_id, p.polarity)) c.cx-2.ensures c.in-Some.ensures.said in
@@ -135,10 +134,24 @@ returns-clause-uncertain c =
     let x = c.in_ok-clause-2.clause in
     let p = c.in-Some.predicate in
     let t = substituted_tree (args_forest ts c.args.locals) (clause_tree ts c.args.clause) in
-    let more = asked-kept c.resolve_clause_if_possible.ensures.kept c.resolve_clause_if_possible.ensures.same in
-    let so : StaysAsAsked old mid = asked-then (asked-kept c.substitute.ensures.kept c.substitute.ensures.same) more.stays more.table in
+    let so = sure-twice c.substitute.ensures.kept c.substitute.ensures.same c.resolve_clause_if_possible.ensures.kept c.resolve_clause_if_possible.ensures.same in
     let is : clause_tree mid.context.trees x ≡ resolved_tree (state old) t
     = c.in_ok-clause-2.ensures.tree ∙ (ap (λ S. resolved_tree S (clause_tree c.substitute.new.ecx.context.trees c.in_ok-clause.clause)) c.substitute.ensures.same ∙ ap (resolved_tree (state old)) c.in_ok-clause.ensures.tree) in
     let said = subst (λ (y : Context). trait_said (clause_tree y.trees x).head ≡ Some (p.trait_ref.def_id, p.polarity)) c.cx-2.ensures c.in-Some.ensures.said in
     let fits = subst (λ (y : Context). arguments_of (clause_tree y.trees x) ≡ args_forest y.trees p.trait_ref.args) c.cx-2.ensures c.in-Some.ensures.fits.2 in
     IfOk-weaker c.is_predicate_answered.result _ _ (λ b h e. clause-unanswered old mid c.args.env t x p so c.requires.env is said fits (h e)) c.is_predicate_answered.ensures.unanswered
+
+pub returns-in_err-clause-clause-sure : goal.returns-in_err-clause-clause-sure
+returns-in_err-clause-clause-sure c = (sure-kept c.substitute.ensures.kept c.substitute.ensures.same).sure
+
+pub returns-in_err-clause-2-clause-sure : goal.returns-in_err-clause-2-clause-sure
+returns-in_err-clause-2-clause-sure c = (sure-twice c.substitute.ensures.kept c.substitute.ensures.same c.resolve_clause_if_possible.ensures.kept c.resolve_clause_if_possible.ensures.same).sure
+
+pub returns-then-is_outlives-clause-sure : goal.returns-then-is_outlives-clause-sure
+returns-then-is_outlives-clause-sure c = (sure-twice c.substitute.ensures.kept c.substitute.ensures.same c.resolve_clause_if_possible.ensures.kept c.resolve_clause_if_possible.ensures.same).sure
+
+pub returns-in_default-clause-sure : goal.returns-in_default-clause-sure
+returns-in_default-clause-sure c = (sure-twice c.substitute.ensures.kept c.substitute.ensures.same c.resolve_clause_if_possible.ensures.kept c.resolve_clause_if_possible.ensures.same).sure
+
+pub returns-clause-sure : goal.returns-clause-sure
+returns-clause-sure c = (sure-then (sure-twice c.substitute.ensures.kept c.substitute.ensures.same c.resolve_clause_if_possible.ensures.kept c.resolve_clause_if_possible.ensures.same) c.is_predicate_answered.ensures.stays c.is_predicate_answered.ensures.sure).sure

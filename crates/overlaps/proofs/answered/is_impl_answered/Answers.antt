@@ -4,7 +4,7 @@ use Rattle.ir_trees.specs.declared.ir.kinds.Clause.{Clause}
 use Rattle.ir_trees.specs.Instantiation.Owned.{ClausesAreOwned}
 use Rattle.ir_trees.specs.Syntax.Words.{args_forest, env_forest}
 use Rattle.candidate_eval.specs.Judges.States.{Env}
-use Rattle.candidate_rounds.specs.Evaluators.Known.{state, table_of}
+use Rattle.candidate_rounds.specs.Evaluators.Known.{state, sure_of}
 use Rattle.overlaps.specs.Answered.{AllHold}
 use Rattle.overlaps.specs.Uncertain.{HoldsNotAt}
 use Rattle.overlaps.proofs.Uncertainty.{some-holds-not}
@@ -24,7 +24,7 @@ returns-in-None-clause-hold c = λ e.
     let ts = r.context.trees in
     let f = c.requires.empty in
     let xs = c.as_slice.ensures.value in
-    subst (λ (q : Env × List Clause). AllHold q.0 ts (table_of r) (state r) (args_forest ts c.args.of.now.locals) q.1) (λ i. (f i, xs i)) (c.in_ok-open.ensures.hold c.in-None.is)
+    subst (λ (q : Env × List Clause). AllHold q.0 ts (sure_of r) (state r) (args_forest ts c.args.of.now.locals) q.1) (λ i. (f i, xs i)) (c.in_ok-open.ensures.hold c.in-None.is)
 
 pub returns-in-Some-clause-uncertain : goal.returns-in-Some-clause-uncertain
 returns-in-Some-clause-uncertain c = λ no.
@@ -33,4 +33,4 @@ returns-in-Some-clause-uncertain c = λ no.
     let f = c.requires.empty in
     let xs = c.as_slice.ensures.value in
     some-holds-not c.in_ok-open.open _ _ c.in-Some.is
-    (subst (λ (q : Env × List Clause). IfSome c.in_ok-open.open (HoldsNotAt q.0 r.context (table_of r) (state r) (args_forest ts c.args.of.now.locals) q.1)) (λ i. (f i, xs i)) c.in_ok-open.ensures.uncertain)
+    (subst (λ (q : Env × List Clause). IfSome c.in_ok-open.open (HoldsNotAt q.0 r.context (sure_of r) (state r) (args_forest ts c.args.of.now.locals) q.1)) (λ i. (f i, xs i)) c.in_ok-open.ensures.uncertain)

@@ -1,7 +1,7 @@
 use Rattle.std.proofs.Common.{[], refl, ap, ◌∙◌}
 use Rattle.ir_trees.specs.Syntax.Trees.{Forest}
 use Rattle.rounds_judge.specs.Obligations.Responding.{renumbered, with_numbers}
-use Rattle.overlaps.proofs.PureFolder.{asked-kept, asked-then}
+use Rattle.overlaps.proofs.PureFolder.{asked-kept, asked-then, sure-kept, sure-then}
 use Rattle.overlaps.proofs.Stopping.{asking-stop, later-kept, later-refl, passed-on, step-stop}
 use Rattle.overlaps.specs.Stopping.{IsOverlapStop, step_numbering}
 use Rattle.candidate_assembly.proofs.Calls.Causes.{asked-somehow}
@@ -39,3 +39,12 @@ returns-in_err-args-clause-cause c = passed-on (IsOverlapStop c.args.rounds.now 
 
 pub returns-in_err-args-2-clause-cause : goal.returns-in_err-args-2-clause-cause
 returns-in_err-args-2-clause-cause c = passed-on (IsOverlapStop c.args.rounds.now c.canonical_args.new.self) c.from_residual-in_err-args-2.result c.in_err-args-2.field-0.0 c.from_residual-in_err-args-2.ensures.1 (step-stop (later-kept c.resolve_args_if_possible.ensures.kept) (step_numbering (args_forest c.resolve_args_if_possible.new.self.context.trees c.in_ok-args.args) c.in_err-args-2.ensures.cause))
+
+pub returns-in_err-args-clause-sure : goal.returns-in_err-args-clause-sure
+returns-in_err-args-clause-sure c = (sure-kept c.resolve_args_if_possible.ensures.kept c.resolve_args_if_possible.ensures.same).sure
+
+pub returns-in_err-args-2-clause-sure : goal.returns-in_err-args-2-clause-sure
+returns-in_err-args-2-clause-sure c = (sure-then (sure-kept c.resolve_args_if_possible.ensures.kept c.resolve_args_if_possible.ensures.same) c.canonical_args.ensures.stays c.canonical_args.ensures.sure).sure
+
+pub returns-clause-sure : goal.returns-clause-sure
+returns-clause-sure c = (sure-then (sure-kept c.resolve_args_if_possible.ensures.kept c.resolve_args_if_possible.ensures.same) c.canonical_args.ensures.stays c.canonical_args.ensures.sure).sure

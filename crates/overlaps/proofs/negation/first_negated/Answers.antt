@@ -3,7 +3,7 @@ use Rattle.ir_trees.proofs.Growth.Kept.{args-kept}
 use Rattle.ir_folds.proofs.Instantiation.Joining.{clause-kept}
 use Rattle.candidate_eval.proofs.Dynamic.Objects.{env-kept}
 use Rattle.candidate_eval.proofs.Outcomes.Pairs.{clause_there}
-use Rattle.candidate_rounds.specs.Evaluators.Known.{table_of}
+use Rattle.candidate_rounds.specs.Evaluators.Known.{sure_of}
 use Rattle.candidate_rounds.proofs.Table.Running.{stays-refl, stays-trans}
 use Rattle.overlaps.proofs.Negated.{one-negated}
 use Rattle.overlaps.proofs.Refusing.{got-there}
@@ -46,7 +46,7 @@ pub returns-then-branch-clause-negated : goal.returns-then-branch-clause-negated
 returns-then-branch-clause-negated c =
     let xs = c.args.clauses.now in
     let n = c.loop-number.number in
-    one-negated c.args.rounds.now c.loop-number.rounds c.args.env c.args.locals xs n (slice_index_or xs n (record { 0 = 0 })) (table_of c.is_clause_negated.new.rounds) c.loop-number.invariant c.requires.env c.requires.locals
+    one-negated c.args.rounds.now c.loop-number.rounds c.args.env c.args.locals xs n (slice_index_or xs n (record { 0 = 0 })) (sure_of c.is_clause_negated.new.rounds) c.loop-number.invariant c.requires.env c.requires.locals
     c.requires.clauses.fit (got-there xs n (record { 0 = 0 }) c.loop-number-test.true) (c.in_ok-is_clause_negated.ensures.negated c.if-branch.true)
 
 pub loop-number-preserved : goal.loop-number-preserved

@@ -3,7 +3,7 @@ use Rattle.std.proofs.lemmas.Result.{IfOk-weaker}
 use Rattle.ir_trees.specs.Syntax.Words.{ClauseListFits}
 use Rattle.candidate_eval.proofs.Dynamic.Objects.{env-kept}
 use Rattle.candidate_assembly.proofs.Calls.Causes.{so-err}
-use Rattle.candidate_rounds.specs.Evaluators.Known.{table_of}
+use Rattle.candidate_rounds.specs.Evaluators.Known.{sure_of}
 use Rattle.candidate_rounds.proofs.Table.Running.{stays-trans}
 use Rattle.overlaps.proofs.Negated.{clause-negated}
 use Rattle.overlaps.proofs.Staying.{stays-kept}
@@ -29,7 +29,7 @@ returns-clause-stays c = stays-trans (stays-kept c.implied_by.ensures.kept c.imp
 pub returns-clause-negated : goal.returns-clause-negated
 returns-clause-negated c =
     IfOk-weaker c.is_one_negated.result _ _
-    (λ b h e. clause-negated c.args.rounds.now c.implied_by.new.ecx c.args.env c.args.locals c.args.clause c.in_ok-implied.implied.items c.as_slice.result.now (table_of c.is_one_negated.new.rounds) c.implied_by.ensures.kept.grows
+    (λ b h e. clause-negated c.args.rounds.now c.implied_by.new.ecx c.args.env c.args.locals c.args.clause c.in_ok-implied.implied.items c.as_slice.result.now (sure_of c.is_one_negated.new.rounds) c.implied_by.ensures.kept.grows
     c.implied_by.ensures.same c.requires.env c.in_ok-implied.ensures.are c.as_slice.ensures.value (h e))
     c.is_one_negated.ensures.denied
 

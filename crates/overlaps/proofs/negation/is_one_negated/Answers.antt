@@ -2,7 +2,7 @@ use Rattle.std.proofs.Common.{slice_index_or}
 use Rattle.ir_folds.proofs.Instantiation.Joining.{clause-kept}
 use Rattle.candidate_eval.proofs.Dynamic.Objects.{env-kept}
 use Rattle.candidate_eval.proofs.Outcomes.Pairs.{clause_there}
-use Rattle.candidate_rounds.specs.Evaluators.Known.{table_of}
+use Rattle.candidate_rounds.specs.Evaluators.Known.{sure_of}
 use Rattle.candidate_rounds.proofs.Table.Running.{stays-refl, stays-trans}
 use Rattle.overlaps.proofs.Negated.{one-denied}
 use Rattle.overlaps.proofs.Stopping.{later-table, passed-on, stop-later}
@@ -31,7 +31,7 @@ returns-then-branch-clause-stays c = stays-trans c.loop-number.invariant c.is_ne
 
 pub returns-then-branch-clause-denied : goal.returns-then-branch-clause-denied
 returns-then-branch-clause-denied c = λ e.
-    one-denied c.args.rounds.now c.loop-number.rounds c.args.env c.args.clauses.now c.loop-number.number (record { 0 = 0 }) (table_of c.is_negation_answered.new.rounds) c.loop-number.invariant c.requires.env c.requires.clauses
+    one-denied c.args.rounds.now c.loop-number.rounds c.args.env c.args.clauses.now c.loop-number.number (record { 0 = 0 }) (sure_of c.is_negation_answered.new.rounds) c.loop-number.invariant c.requires.env c.requires.clauses
     c.loop-number-test.true (c.in_ok-is_negation_answered.ensures.denied c.if-branch.true)
 
 pub loop-number-preserved : goal.loop-number-preserved

@@ -6,7 +6,7 @@ use Rattle.ir_trees.specs.Declarations.Declaring.{impl_at}
 use Rattle.ir_trees.specs.Validity.WellFormed.{ImplIsGiven}
 use Rattle.ir_trees.proofs.Growth.Kept.{args-kept, grows-trans}
 use Rattle.candidate_assembly.proofs.Calls.Causes.{so-err}
-use Rattle.candidate_rounds.specs.Evaluators.Known.{state, table_of}
+use Rattle.candidate_rounds.specs.Evaluators.Known.{state, sure_of}
 use Rattle.overlaps.specs.Opening.{AreOpened}
 use Rattle.overlaps.proofs.Negated.{negated-here, some-weaker}
 use Rattle.overlaps.proofs.Pairs.{are-open}
@@ -70,7 +70,7 @@ returns-clause-negated c =
     let given = subst (λ (x : Context). IfSome (impl_at x a) (ImplIsGiven x)) c.cx.ensures c.recall_impl_given.ensures in
     let other = subst (λ (x : Context). IfSome (impl_at x b) (ImplIsGiven x)) c.cx-2.ensures c.recall_impl_given-2.ensures in
     IfOk-weaker c.negated_of_pair.result _ _
-    (some-weaker (negated-here old one two mid a b p k.grows l.grows m.grows (table_of c.negated_of_pair.new.rounds) c.in_ok-of_first.of_first c.in_ok-of_second.of_second
+    (some-weaker (negated-here old one two mid a b p k.grows l.grows m.grows (sure_of c.negated_of_pair.new.rounds) c.in_ok-of_first.of_first c.in_ok-of_second.of_second
     (m.fixed_same ∙ (l.fixed_same ∙ k.fixed_same)) given other c.in_ok-of_first.ensures.state c.in_ok-of_second.ensures.state (c.in_ok-of_first.ensures.sort, c.in_ok-of_first.ensures.trees)
     (c.in_ok-of_second.ensures.sort, c.in_ok-of_second.ensures.trees) o))
     c.negated_of_pair.ensures.negated

@@ -8,7 +8,7 @@ use Rattle.candidate_eval.proofs.Interface.Unmade.{members-unmade}
 use Rattle.candidate_eval.specs.Interface.Accounts.StopsSomehow.{making}
 use Rattle.candidate_assembly.proofs.Calls.Causes.{so-err}
 use Rattle.candidate_rounds.specs.Evaluators.Interface.{Rest}
-use Rattle.candidate_rounds.specs.Evaluators.Known.{state, table_of}
+use Rattle.candidate_rounds.specs.Evaluators.Known.{state, sure_of}
 use Rattle.candidate_rounds.specs.Evaluators.Leaking.{Leaks}
 use Rattle.overlaps.specs.Refused.{AreOpen}
 use Rattle.overlaps.proofs.Negated.{negated-of-pair, some-weaker}
@@ -85,7 +85,7 @@ returns-clause-negated c =
     let equal = equated-as-made old mid c.in_ok-env.env p (Some (state now)) c.mk_param_env.ensures.made.kept c.mk_param_env.ensures.rest c.in_ok-env.ensures.made.tree c.requires.pair (c.in_ok-make_equal.ensures.equal c.if-not-branch.false) in
     let kept : Leaks (state old).newest_universe (state now) → ⊥ = λ l. c.in_ok-leaks.ensures.no c.if-leaks.false (subst (λ (u : ℕ). Leaks u (state now)) (sym c.newest_universe-above.ensures) l) in
     let same = c.make_equal.ensures.kept.fixed_same ∙ ap (λ (x : Rest). x.fixed) c.mk_param_env.ensures.rest in
-    IfOk-weaker c.negated_where_equal.result _ _ (some-weaker (negated-of-pair old now p c.args.placeholders (table_of c.negated_where_equal.new.rounds) grows same c.requires.pair c.requires.first c.requires.second equal kept)) c.negated_where_equal.ensures.negated
+    IfOk-weaker c.negated_where_equal.result _ _ (some-weaker (negated-of-pair old now p c.args.placeholders (sure_of c.negated_where_equal.new.rounds) grows same c.requires.pair c.requires.first c.requires.second equal kept)) c.negated_where_equal.ensures.negated
 
 pub returns-clause-cause : goal.returns-clause-cause
 returns-clause-cause c =

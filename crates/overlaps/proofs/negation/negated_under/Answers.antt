@@ -3,7 +3,7 @@ use Rattle.std.proofs.lemmas.Result.{IfOk-weaker}
 use Rattle.ir_trees.specs.Instantiation.Owned.{ClausesAreOwned}
 use Rattle.ir_trees.specs.Syntax.Words.{args_forest}
 use Rattle.candidate_assembly.proofs.Calls.Causes.{so-err}
-use Rattle.candidate_rounds.specs.Evaluators.Known.{table_of}
+use Rattle.candidate_rounds.specs.Evaluators.Known.{sure_of}
 use Rattle.candidate_rounds.proofs.Table.Running.{stays-trans}
 use Rattle.overlaps.proofs.Negated.{negated-under, some-weaker}
 use Rattle.overlaps.proofs.Pairs.{pair-later}
@@ -36,7 +36,7 @@ returns-clause-stays c = stays-trans (stays-kept c.environment_here.ensures.kept
 pub returns-clause-negated : goal.returns-clause-negated
 returns-clause-negated c =
     IfOk-weaker c.first_negated.result _ _
-    (some-weaker (negated-under c.args.rounds.now c.environment_here.new.ecx c.in_ok-env.env c.args.pair.now c.as_slice-clauses.result.now (table_of c.first_negated.new.rounds) c.environment_here.ensures.kept.grows
+    (some-weaker (negated-under c.args.rounds.now c.environment_here.new.ecx c.in_ok-env.env c.args.pair.now c.as_slice-clauses.result.now (sure_of c.first_negated.new.rounds) c.environment_here.ensures.kept.grows
     c.environment_here.ensures.same c.requires.pair c.in_ok-env.ensures.is c.as_slice-clauses.ensures.value))
     c.first_negated.ensures.negated
 

@@ -3,7 +3,7 @@ use Rattle.std.proofs.lemmas.Result.{IfOk-weaker}
 use Rattle.ir_trees.proofs.Growth.Kept.{args-kept, grows-trans}
 use Rattle.candidate_eval.proofs.Dynamic.Objects.{env-kept}
 use Rattle.candidate_assembly.proofs.Calls.Causes.{so-err}
-use Rattle.candidate_rounds.specs.Evaluators.Known.{table_of}
+use Rattle.candidate_rounds.specs.Evaluators.Known.{sure_of}
 use Rattle.overlaps.proofs.Negated.{negated-from, some-weaker}
 use Rattle.overlaps.proofs.Pairs.{pair-later}
 use Rattle.overlaps.proofs.Staying.{known-beside, known-kept, known-then}
@@ -45,7 +45,7 @@ returns-clause-stays c = known-then (known-then (known-kept c.plug.ensures.kept)
 pub returns-clause-negated : goal.returns-clause-negated
 returns-clause-negated c =
     IfOk-weaker c.negated_under.result _ _
-    (some-weaker (negated-from c.args.rounds.now c.plug.new.rounds c.plug-2.new.rounds c.args.pair.now c.args.placeholders (table_of c.negated_under.new.rounds) c.plug.ensures.kept.grows c.plug-2.ensures.kept.grows c.plug.ensures.kept.fixed_same
+    (some-weaker (negated-from c.args.rounds.now c.plug.new.rounds c.plug-2.new.rounds c.args.pair.now c.args.placeholders (sure_of c.negated_under.new.rounds) c.plug.ensures.kept.grows c.plug-2.ensures.kept.grows c.plug.ensures.kept.fixed_same
     c.in_ok-plug.ensures.plugs c.in_ok-plug-2.ensures.plugs c.requires.pair c.requires.second))
     c.negated_under.ensures.negated
 

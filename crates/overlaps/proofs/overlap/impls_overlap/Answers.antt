@@ -1,6 +1,6 @@
 use Rattle.std.proofs.Common.{◌∙◌, IfOk, ap, subst}
 use Rattle.ir_trees.specs.declared.decl.contents.ImplId.{ImplId}
-use Rattle.candidate_rounds.specs.Evaluators.Known.{state, table_of}
+use Rattle.candidate_rounds.specs.Evaluators.Known.{state, sure_of, table_of}
 use Rattle.overlaps.specs.Allowed.{allowance_of_ordered}
 use Rattle.overlaps.specs.Apart.{OfDeclared, aside}
 use Rattle.overlaps.specs.Asked.{OfClause, WereAsked, WereAskedBefore, WhereMay}
@@ -35,5 +35,5 @@ pub returns-clause-uncertain : goal.returns-clause-uncertain
 returns-clause-uncertain c =
     let old = c.args.rounds.now in
     let new = c.overlap_of_ordered.new.rounds in
-    subst (λ (p : ImplId × ImplId). IfOk c.overlap_of_ordered.result (WhereUncertain (OfDeclared old.context p.0 p.1 (ImplsAreUncertain old (aside (state old)) (table_of new))))) c.in_order-pair.ensures
+    subst (λ (p : ImplId × ImplId). IfOk c.overlap_of_ordered.result (WhereUncertain (OfDeclared old.context p.0 p.1 (ImplsAreUncertain old (aside (state old)) (sure_of new))))) c.in_order-pair.ensures
     c.overlap_of_ordered.ensures.uncertain

@@ -1,7 +1,7 @@
 use Rattle.std.proofs.Common.{rules, subst}
 use Rattle.std.proofs.lemmas.Result.{IfOk-weaker}
 use Rattle.ir_trees.specs.Validity.WellFormed.{IsWellFormedTable}
-use Rattle.candidate_rounds.specs.Evaluators.Known.{state, table_of}
+use Rattle.candidate_rounds.specs.Evaluators.Known.{state, sure_of, table_of}
 use Rattle.overlaps.proofs.AskedPairs.{may-weaker, of-clause-weaker, pair-declared, pair-declared-before}
 use Rattle.overlaps.specs.Opening.{AreOpened}
 use Rattle.overlaps.proofs.Uncertainty.{uncertain-declared, uncertain-weaker}
@@ -72,7 +72,7 @@ returns-clause-uncertain c =
     let kept = c.open_both.ensures.kept in
     let o : AreOpened old.context (state old) c.args.first c.args.second mid.context (state mid) p = search rules in
     IfOk-weaker c.overlap_of_pair.result _ _
-    (uncertain-weaker (uncertain-declared old mid c.args.first c.args.second p (table_of c.overlap_of_pair.new.rounds) kept.grows kept.fixed_same o)) c.overlap_of_pair.ensures.uncertain
+    (uncertain-weaker (uncertain-declared old mid c.args.first c.args.second p (sure_of c.overlap_of_pair.new.rounds) kept.grows kept.fixed_same o)) c.overlap_of_pair.ensures.uncertain
 
 pub returns-clause-decided : goal.returns-clause-decided
 returns-clause-decided c =

@@ -1,5 +1,5 @@
 use Rattle.std.proofs.Common.{◌≡◌, ◌⊎◌, true, sym, subst}
-use Rattle.candidate_rounds.specs.Evaluators.Known.{state, table_of}
+use Rattle.candidate_rounds.specs.Evaluators.Known.{state, sure_of, table_of}
 use Rattle.overlaps.specs.Asked.{BothStay, OfClause, StayBefore, WhereMay}
 use Rattle.overlaps.specs.Found.{IsFoundWhereEqual}
 use Rattle.overlaps.specs.Instance.{IsCertainUnless}
@@ -37,5 +37,5 @@ pub returns-clause-uncertain : goal.returns-clause-uncertain
 returns-clause-uncertain c =
     let r = c.args.rounds.now in
     let new = c.overlap_where_equal.new.rounds in
-    subst (WhereUncertain ((c.args.leaks ≡ true) ⊎ IsUncertainWhereEqual r.context (table_of new) (state r) c.args.pair.now)) (sym c.unless_leaking.ensures)
-    (unless-uncertain (IsUncertainWhereEqual r.context (table_of new) (state r) c.args.pair.now) c.args.leaks c.in_ok-answer.answer c.in_ok-answer.ensures.uncertain)
+    subst (WhereUncertain ((c.args.leaks ≡ true) ⊎ IsUncertainWhereEqual r.context (sure_of new) (state r) c.args.pair.now)) (sym c.unless_leaking.ensures)
+    (unless-uncertain (IsUncertainWhereEqual r.context (sure_of new) (state r) c.args.pair.now) c.args.leaks c.in_ok-answer.answer c.in_ok-answer.ensures.uncertain)

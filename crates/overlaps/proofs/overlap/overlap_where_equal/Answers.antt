@@ -2,7 +2,7 @@ use Rattle.std.proofs.Common.{sym, subst, ◌∙◌}
 use Rattle.ir_trees.proofs.Growth.Kept.{args-kept, grows-trans}
 use Rattle.candidate_eval.proofs.Dynamic.Objects.{env-kept}
 use Rattle.candidate_rounds.proofs.Table.Running.{stays-trans}
-use Rattle.candidate_rounds.specs.Evaluators.Known.{state, table_of}
+use Rattle.candidate_rounds.specs.Evaluators.Known.{state, sure_of, table_of}
 use Rattle.overlaps.specs.Asked.{BothStay}
 use Rattle.overlaps.proofs.Instances.{instance-where-equal}
 use Rattle.candidate_eval.specs.Judges.States.{State}
@@ -40,7 +40,7 @@ returns-clause-stays c = stays-trans c.refused_clause.ensures.stays (stays-trans
 pub returns-clause-is : goal.returns-clause-is
 returns-clause-is c =
     instance-where-equal c.args.rounds.now c.refused_clause.new.rounds c.are_certain.new.rounds c.common_instance.new.rounds c.args.pair.now c.in_ok-instance.instance c.in_ok-is_certain.is_certain
-    c.refused_clause.ensures.stays c.are_certain.ensures.stays (c.common_instance.ensures.table ∙ c.are_certain.ensures.table) c.requires.pair c.in_ok-is_certain.ensures.hold c.in_ok-is_certain.ensures.no_alias c.in_ok-instance.ensures.certain
+    c.refused_clause.ensures.stays c.are_certain.ensures.stays (c.common_instance.ensures.sure ∙ c.are_certain.ensures.sure) c.requires.pair c.in_ok-is_certain.ensures.hold c.in_ok-is_certain.ensures.no_alias c.in_ok-instance.ensures.certain
     c.in_ok-instance.ensures.is
 
 pub returns-in_err-clause-clause-cause : goal.returns-in_err-clause-clause-cause
@@ -61,7 +61,7 @@ pub returns-clause-uncertain : goal.returns-clause-uncertain
 returns-clause-uncertain c = λ e.
     let old = c.args.rounds.now in
     let mid = c.refused_clause.new.rounds in
-    let t = sym (c.common_instance.ensures.table ∙ c.are_certain.ensures.table) in
+    let t = sym (c.common_instance.ensures.sure ∙ c.are_certain.ensures.sure) in
     let s = c.refused_clause.ensures.stays.state_same in
-    where-equal-earlier old.context mid.context (table_of c.common_instance.new.rounds) (state old) c.args.pair.now c.refused_clause.ensures.stays.grows c.requires.pair
+    where-equal-earlier old.context mid.context (sure_of c.common_instance.new.rounds) (state old) c.args.pair.now c.refused_clause.ensures.stays.grows c.requires.pair
     (subst (λ (q : GoalTable Via × State). IsUncertainWhereEqual mid.context q.0 q.1 c.args.pair.now) (λ i. (t i, s i)) (c.in_ok-is_certain.ensures.uncertain (sym c.in_ok-instance.ensures.certain ∙ e)))

@@ -1,7 +1,6 @@
-use Rattle.std.proofs.Common.{List, ap, subst, sym, ◌∙◌}
+use Rattle.std.proofs.Common.{ap, subst, sym, ◌∙◌}
 use Rattle.std.specs.Prelude.{map}
 use Rattle.std.proofs.lemmas.Result.{IfOk-weaker}
-use Rattle.ir_trees.specs.declared.ir.kinds.Clause.{Clause}
 use Rattle.ir_trees.specs.Syntax.Words.{ClauseListFits, args_forest, clause_tree, env_forest}
 use Rattle.candidate_eval.proofs.Interface.Accounts.{reaches, somehow-later}
 use Rattle.candidate_eval.proofs.Interface.Probing.{then}

@@ -1,11 +1,10 @@
 use Rattle.std.proofs.Common.{List, rules, subst, sym, ◌∙◌}
 use Rattle.std.proofs.lemmas.Result.{IfOk-weaker}
-use Rattle.ir_trees.proofs.Growth.Kept.{grows-trans}
 use Rattle.ir_trees.specs.declared.ir.kinds.Clause.{Clause}
 use Rattle.ir_trees.specs.Instantiation.Owned.{ClausesAreOwned}
 use Rattle.ir_trees.specs.Syntax.Words.{args_forest, env_forest}
 use Rattle.candidate_assembly.proofs.Calls.Causes.{so-err}
-use Rattle.candidate_rounds.specs.Evaluators.Known.{state, table_of}
+use Rattle.candidate_rounds.specs.Evaluators.Known.{state, sure_of}
 use Rattle.overlaps.specs.Opening.{AreEntered}
 use Rattle.overlaps.specs.Specialized.{IsEnvironmentOf, IsEnvironmentOfOpen, clauses_with}
 use Rattle.overlaps.proofs.Pairs.{pair-later}
@@ -62,7 +61,7 @@ returns-clause-is c =
     let e : IsEnvironmentOfOpen mid.context first (env_forest now.context.trees c.in_ok-env.env)
     = subst (λ (xs : List Clause). IsEnvironmentOf mid.context (clauses_with ts (args_forest ts first.locals) xs) (env_forest now.context.trees c.in_ok-env.env)) c.as_slice.ensures.value c.in_ok-env.ensures.is in
     IfOk-weaker c.specializes_under.result _ _
-    (found-here old mid now c.args.special c.args.general c.in-Some.pair (env_forest now.context.trees c.in_ok-env.env) (table_of c.specializes_under.new.rounds)
+    (found-here old mid now c.args.special c.args.general c.in-Some.pair (env_forest now.context.trees c.in_ok-env.env) (sure_of c.specializes_under.new.rounds)
     c.enter_and_open.ensures.kept.grows c.environment_of.ensures.kept.grows (c.environment_of.ensures.kept.fixed_same ∙ c.enter_and_open.ensures.kept.fixed_same) c.environment_of.ensures.same o c.requires.alike e)
     c.specializes_under.ensures.is
 

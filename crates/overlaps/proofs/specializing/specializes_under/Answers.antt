@@ -1,4 +1,4 @@
-use Rattle.std.proofs.Common.{◌≡◌, ℕ, false, sym, subst, ◌∙◌}
+use Rattle.std.proofs.Common.{◌≡◌, ℕ, false, sym, subst}
 use Rattle.std.proofs.lemmas.Result.{IfOk-weaker}
 use Rattle.ir_trees.specs.Declarations.Context.{Context}
 use Rattle.ir_trees.specs.Syntax.Trees.{holds, is_alias}
@@ -63,7 +63,7 @@ returns-clause-stays c =
     known-then (known-kept c.make_equal.ensures.kept)
     (known-beside
     (probe-stays c.make_equal.new.ecx c.begin_probe.new.self c.specializes_where_equal-answer.new.rounds c.end_probe.new.self began.fixed began.grows began.faults began.ok.1
-    (known-beside c.specializes_where_equal-answer.ensures.stays) end.fixed end.grows end.faults end.closed end.left))
+    c.specializes_where_equal-answer.ensures.stays end.fixed end.grows end.faults end.closed end.left))
 
 pub returns-clause-is : goal.returns-clause-is
 returns-clause-is c =
@@ -77,7 +77,8 @@ returns-clause-is c =
     IfOk-weaker c.specializes_where_equal-answer.result _ _
     (found-under old c.begin_probe.new.self c.specializes_where_equal-answer.new.rounds c.end_probe.new.self c.args.env p (state c.make_equal.new.ecx)
     (grows-trans _ _ _ c.make_equal.ensures.kept.grows c.begin_probe.ensures.grows) c.requires.env c.requires.pair (record { first = no-other; second = no-alias })
-    (c.in_ok-make_equal.ensures.equal c.if-not-branch.false) kept c.in_ok-aside.ensures.ok.0 c.end_probe.ensures.fixed)
+    (c.in_ok-make_equal.ensures.equal c.if-not-branch.false) kept (later-then (later-kept c.make_equal.ensures.kept) (later-begun c.begin_probe.ensures.grows c.begin_probe.ensures.fixed)) c.in_ok-aside.ensures.ok.0
+    c.end_probe.ensures.fixed)
     c.specializes_where_equal-answer.ensures.is
 
 pub returns-in_err-make_equal-clause-cause : goal.returns-in_err-make_equal-clause-cause

@@ -1,4 +1,4 @@
-use Rattle.std.proofs.Common.{rules, ◌≡◌, ◌≤◌, ◌++◌, ◌∷◌, [], ◌+◌, add-one, arith, drop, length, refl, slice_index_or, ◌∙◌, ap}
+use Rattle.std.proofs.Common.{rules, ◌≡◌, ◌≤◌, ◌++◌, ◌∷◌, [], ◌+◌, add-one, drop, length, refl, slice_index_or, ◌∙◌}
 use Rattle.std.proofs.lemmas.Result.{err_from_is_err_and}
 use Rattle.std.proofs.Math.Seq.{drop-cons}
 use Rattle.ir_trees.specs.Instantiation.Folding.{substituted_tree}
@@ -6,11 +6,10 @@ use Rattle.ir_trees.specs.Syntax.Trees.{ClauseKind}
 use Rattle.ir_trees.specs.Syntax.Words.{args_forest, clause_tree}
 use Rattle.ir_trees.proofs.Growth.Kept.{args-kept}
 use Rattle.ir_folds.proofs.Instantiation.Joining.{clause-kept}
-use Rattle.candidate_eval.specs.Interface.Accounts.{StopsSomehow}
 use Rattle.candidate_eval.specs.Interface.Accounts.StopsSomehow.{making}
 use Rattle.candidate_eval.specs.Interface.Unmade.IsMade.{with_arguments}
 use Rattle.candidate_eval.specs.Interface.Unmade.IsUnmade.{of_trees}
-use Rattle.candidate_eval.proofs.Interface.Accounts.{memory-somehow, reaches, somehow-later}
+use Rattle.candidate_eval.proofs.Interface.Accounts.{memory-somehow}
 use Rattle.candidate_eval.proofs.Interface.Probing.{then}
 use Rattle.overlaps.proofs.Staying.{keeps-refl}
 use Rattle.candidate_eval.proofs.Outcomes.Pairs.{clause_there}

@@ -2,8 +2,7 @@ use Rattle.std.proofs.Common.{◌≡◌, ◌++◌, rules, subst, sym}
 use Rattle.ir_trees.specs.Declarations.Context.{Context}
 use Rattle.candidate_rounds.specs.Evaluators.Known.{Each}
 use Rattle.candidate_rounds.proofs.Table.Rounding.{each-join}
-use Rattle.overlaps.specs.Together.{IsObligation, Obligation}
-use Rattle.std.specs.Prelude.{List}
+use Rattle.overlaps.specs.Together.{IsObligation}
 use Rattle.overlaps.proofs.together.leave_pending.Goals as goal
 
 pub returns-clause-fit : goal.returns-clause-fit

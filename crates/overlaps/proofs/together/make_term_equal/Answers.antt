@@ -4,6 +4,7 @@ use Rattle.ir_trees.specs.Syntax.Words.{kind_tree, ty_tree}
 use Rattle.ir_trees.proofs.Growth.Kept.{ty-kept}
 use Rattle.candidate_eval.proofs.Dynamic.Objects.{env-kept}
 use Rattle.candidate_eval.proofs.Interface.Accounts.{memory-somehow}
+use Rattle.candidate_eval.specs.Judges.States.{Env}
 use Rattle.candidate_assembly.proofs.Calls.Causes.{so-err}
 use Rattle.candidate_rounds.specs.Evaluators.Known.{state}
 use Rattle.overlaps.proofs.Jointly.{equal-left, kept-tried, obligations-there}
@@ -11,6 +12,7 @@ use Rattle.overlaps.proofs.JointNormals.{equal-as}
 use Rattle.overlaps.proofs.Stopping.{asking-stop, later-kept, later-known, later-refl, later-then, passed-on}
 use Rattle.overlaps.specs.Stopping.{IsOverlapStop}
 use Rattle.overlaps.specs.Together.{IsProjectedAs, no_type_as_said, other_type, pending_at}
+use Rattle.overlaps.specs.declared.together.ProjectionType.{ProjectionType}
 use Rattle.overlaps.proofs.together.make_term_equal.Goals as goal
 
 pub make_one_equal-requires-clause-env : goal.make_one_equal-requires-clause-env
@@ -30,7 +32,7 @@ returns-then-not-branch-clause-tried c =
     let at = c.projected.new.rounds in
     let t = kind_tree old.context.trees (K.Alias c.args.said.0) in
     let u = ty_tree old.context.trees c.args.said.1 in
-    let p = subst (IsProjectedAs old at t) c.in-Type.is c.in_ok-projected.ensures.is in
+    let p = subst (λ (q : Env × ProjectionType). IsProjectedAs old at q.0 t q.1) (λ i. (c.requires.empty i, c.in-Type.is i)) c.in_ok-projected.ensures.is in
     let refused = equal-as old at c.args.goal.1.param_env c.in-Type.ty c.args.said.1 None c.projected.ensures.stays.grows c.requires.fit.0 c.requires.empty p.1 c.requires.term
     (c.in_ok-make_one_equal-in-Type.ensures.apart c.if-not-branch.true) in
     λ ps there. other_type (pending_at old c.args.goal) t u (state at) at there c.requires.said p.0 (later-known c.projected.ensures.stays) refused
@@ -50,7 +52,7 @@ pub returns-in-Open-clause-tried : goal.returns-in-Open-clause-tried
 returns-in-Open-clause-tried c =
     let old = c.args.rounds.now in
     let mid = c.projected.new.rounds in
-    let same : state mid ≡ state old = subst (IsProjectedAs old mid (kind_tree old.context.trees (K.Alias c.args.said.0))) c.in-Open.is c.in_ok-projected.ensures.is in
+    let same : state mid ≡ state old = subst (λ (q : Env × ProjectionType). IsProjectedAs old mid q.0 (kind_tree old.context.trees (K.Alias c.args.said.0)) q.1) (λ i. (c.requires.empty i, c.in-Open.is i)) c.in_ok-projected.ensures.is in
     kept-tried old mid c.args.goal c.args.left.now.items c.keep.new.left.items c.keep.result (later-known c.projected.ensures.stays) same c.requires.pending c.requires.fit c.requires.left c.keep.ensures.open c.keep.ensures.pushed
 
 pub returns-in-Open-clause-cause : goal.returns-in-Open-clause-cause
@@ -60,7 +62,7 @@ pub returns-in-Impossible-clause-tried : goal.returns-in-Impossible-clause-tried
 returns-in-Impossible-clause-tried c =
     let old = c.args.rounds.now in
     let t = kind_tree old.context.trees (K.Alias c.args.said.0) in
-    let normal = subst (IsProjectedAs old c.projected.new.rounds t) c.in-Impossible.is c.in_ok-projected.ensures.is in
+    let normal = subst (λ (q : Env × ProjectionType). IsProjectedAs old c.projected.new.rounds q.0 t q.1) (λ i. (c.requires.empty i, c.in-Impossible.is i)) c.in_ok-projected.ensures.is in
     λ ps there. no_type_as_said (pending_at old c.args.goal) t (ty_tree old.context.trees c.args.said.1) there c.requires.said normal
 
 pub returns-in_ok-leave_pending-in-Type-clause-tried : goal.returns-in_ok-leave_pending-in-Type-clause-tried
@@ -71,7 +73,7 @@ returns-in_ok-leave_pending-in-Type-clause-tried c =
     let new = c.leave_pending.new.rounds in
     let t = kind_tree old.context.trees (K.Alias c.args.said.0) in
     let u = ty_tree old.context.trees c.args.said.1 in
-    let p = subst (IsProjectedAs old at t) c.in-Type.is c.in_ok-projected.ensures.is in
+    let p = subst (λ (q : Env × ProjectionType). IsProjectedAs old at q.0 t q.1) (λ i. (c.requires.empty i, c.in-Type.is i)) c.in_ok-projected.ensures.is in
     let l = later-known c.projected.ensures.stays in
     let m = later-then (later-then l (later-kept c.make_one_equal.ensures.kept)) (later-kept c.leave_pending.ensures.kept) in
     let equal = equal-as old at c.args.goal.1.param_env c.in-Type.ty c.args.said.1 (Some (state done)) c.projected.ensures.stays.grows c.requires.fit.0 c.requires.empty p.1 c.requires.term

@@ -9,7 +9,7 @@ use Rattle.candidate_eval.proofs.Dynamic.Objects.{env-kept}
 use Rattle.candidate_eval.proofs.Interface.Accounts.{memory-somehow}
 use Rattle.candidate_assembly.specs.Goals.TraitGoals.{trait_goal}
 use Rattle.candidate_assembly.proofs.Calls.Keeping.{trait-goal-kept}
-use Rattle.candidate_rounds.specs.Evaluators.Known.{table_of}
+use Rattle.candidate_rounds.specs.Evaluators.Known.{sure_of}
 use Rattle.candidate_rounds.specs.Table.Normalizing.{trait_predicate}
 use Rattle.candidate_rounds.proofs.Table.Running.{stays-refl, stays-trans}
 use Rattle.overlaps.proofs.JointNormals.{alias-args, came-of, normalizing-stop, of-projection, projection-later, still-projection, trait-key-later}
@@ -137,7 +137,7 @@ returns-clause-comes c =
     let never
     = subst (λ (y : Context). HaveVariable (args_forest y.trees p.trait_ref.args) → RestsOnPart y p.trait_ref.def_id → ⊥) c.cx-3.ensures (c.in_ok-refuses_instances.ensures.instances c.if-not-branch-3.false) in
     came-of old s c.normalize.new.self c.args.env alias c.args.count c.normalize.result stays
-    (subst (HasYes (table_of s)) key (c.in_ok-is_proved.ensures.yes c.if-not-branch-2.false)) (of-projection old.context s.context c.args.env alias p stays.grows is never) c.normalize.ensures.normalized
+    (subst (HasYes (sure_of s)) key (c.in_ok-is_proved.ensures.yes c.if-not-branch-2.false)) (of-projection old.context s.context c.args.env alias p stays.grows is never) c.normalize.ensures.normalized
 
 pub returns-clause-cause : goal.returns-clause-cause
 returns-clause-cause c =

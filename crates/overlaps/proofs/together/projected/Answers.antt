@@ -16,7 +16,7 @@ returns-in-Some-clause-is c =
     let mid = c.normal.new.rounds in
     let came = some-holds (CameOf old mid c.args.env c.args.alias) c.in_ok-response.field-0 c.in-Some.response c.in-Some.is c.in_ok-response.ensures.comes in
     IfOk-weaker c.give_sure.result _ _
-    (projected-as old mid c.give_sure.new.rounds c.args.env c.args.alias c.in-Some.response c.normal.ensures.stays c.requires.env c.requires.empty c.requires.alias came) c.give_sure.ensures.is
+    (projected-as old mid c.give_sure.new.rounds c.args.env c.args.alias c.in-Some.response c.normal.ensures.stays c.requires.env c.requires.alias came) c.give_sure.ensures.is
 
 pub returns-in-Some-clause-cause : goal.returns-in-Some-clause-cause
 returns-in-Some-clause-cause c = so-err c.give_sure.result (λ s k. stop-later (later-table c.normal.ensures.stays) k) c.give_sure.ensures.cause

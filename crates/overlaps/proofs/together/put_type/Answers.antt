@@ -6,6 +6,7 @@ use Rattle.ir_trees.specs.Syntax.Words.{kind_tree, ty_tree}
 use Rattle.ir_trees.proofs.Growth.Kept.{ty-kept}
 use Rattle.ir_folds.proofs.Instantiation.Joining.{clause-kept}
 use Rattle.candidate_eval.proofs.Interface.Accounts.{memory-somehow}
+use Rattle.candidate_eval.specs.Judges.States.{Env}
 use Rattle.candidate_eval.specs.Interface.Accounts.StopsSomehow.{making}
 use Rattle.candidate_assembly.proofs.Calls.Causes.{so-err}
 use Rattle.candidate_rounds.specs.Evaluators.Known.{state}
@@ -14,6 +15,7 @@ use Rattle.overlaps.proofs.JointNormals.{alias-here, pushed-fit, put-left}
 use Rattle.overlaps.proofs.Stopping.{asking-stop, later-kept, later-known, later-refl, passed-on}
 use Rattle.overlaps.specs.Stopping.{IsOverlapStop}
 use Rattle.overlaps.specs.Together.{IsNormalAt, IsProjectedAs, no_type, pending_at}
+use Rattle.overlaps.specs.declared.together.ProjectionType.{ProjectionType}
 use Rattle.overlaps.proofs.together.put_type.Goals as goal
 
 pub with_type_for-requires-clause-old : goal.with_type_for-requires-clause-old
@@ -37,7 +39,7 @@ returns-in_err-push-in-Type-clause-cause c =
 
 pub leave_pending-requires : goal.leave_pending-requires
 leave_pending-requires c =
-    let p = subst (IsProjectedAs c.args.rounds.now c.projected.new.rounds (kind_tree c.args.rounds.now.context.trees (K.Alias c.args.projection.1))) c.in-Type.is c.in_ok-projected.ensures.is in
+    let p = subst (λ (q : Env × ProjectionType). IsProjectedAs c.args.rounds.now c.projected.new.rounds q.0 (kind_tree c.args.rounds.now.context.trees (K.Alias c.args.projection.1)) q.1) (λ i. (c.requires.empty i, c.in-Type.is i)) c.in_ok-projected.ensures.is in
     let items : c.push.new.self.items ≡ c.args.left.now.items ++ (c.args.goal.0, record { param_env = c.args.goal.1.param_env; predicate = c.in_ok-predicate-in-Type.predicate }) ∷ [] = search rules in
     record {
       fit =
@@ -55,7 +57,7 @@ pub returns-in-Open-clause-tried : goal.returns-in-Open-clause-tried
 returns-in-Open-clause-tried c =
     let old = c.args.rounds.now in
     let mid = c.projected.new.rounds in
-    let same : state mid ≡ state old = subst (IsProjectedAs old mid (kind_tree old.context.trees (K.Alias c.args.projection.1))) c.in-Open.is c.in_ok-projected.ensures.is in
+    let same : state mid ≡ state old = subst (λ (q : Env × ProjectionType). IsProjectedAs old mid q.0 (kind_tree old.context.trees (K.Alias c.args.projection.1)) q.1) (λ i. (c.requires.empty i, c.in-Open.is i)) c.in_ok-projected.ensures.is in
     kept-tried old mid c.args.goal c.args.left.now.items c.keep.new.left.items c.keep.result (later-known c.projected.ensures.stays) same c.requires.pending c.requires.fit c.requires.left c.keep.ensures.open c.keep.ensures.pushed
 
 pub returns-in-Open-clause-cause : goal.returns-in-Open-clause-cause
@@ -65,13 +67,13 @@ pub returns-in-Impossible-clause-tried : goal.returns-in-Impossible-clause-tried
 returns-in-Impossible-clause-tried c =
     let old = c.args.rounds.now in
     let normal : IsNormalAt old (state old) (kind_tree old.context.trees (K.Alias c.args.projection.1)) None
-    = subst (IsProjectedAs old c.projected.new.rounds (kind_tree old.context.trees (K.Alias c.args.projection.1))) c.in-Impossible.is c.in_ok-projected.ensures.is in
+    = subst (λ (q : Env × ProjectionType). IsProjectedAs old c.projected.new.rounds q.0 (kind_tree old.context.trees (K.Alias c.args.projection.1)) q.1) (λ i. (c.requires.empty i, c.in-Impossible.is i)) c.in_ok-projected.ensures.is in
     λ ps there.
     no_type (pending_at old c.args.goal) (ty_tree old.context.trees c.args.projection.0) there c.requires.stands (subst (λ (t : Tree). IsNormalAt old (state old) t None) c.requires.projection.is normal)
 
 pub returns-in_ok-leave_pending-in-Type-clause-tried : goal.returns-in_ok-leave_pending-in-Type-clause-tried
 returns-in_ok-leave_pending-in-Type-clause-tried c =
-    let p = subst (IsProjectedAs c.args.rounds.now c.projected.new.rounds (kind_tree c.args.rounds.now.context.trees (K.Alias c.args.projection.1))) c.in-Type.is c.in_ok-projected.ensures.is in
+    let p = subst (λ (q : Env × ProjectionType). IsProjectedAs c.args.rounds.now c.projected.new.rounds q.0 (kind_tree c.args.rounds.now.context.trees (K.Alias c.args.projection.1)) q.1) (λ i. (c.requires.empty i, c.in-Type.is i)) c.in_ok-projected.ensures.is in
     let items : c.push.new.self.items ≡ c.args.left.now.items ++ (c.args.goal.0, record { param_env = c.args.goal.1.param_env; predicate = c.in_ok-predicate-in-Type.predicate }) ∷ [] = search rules in
     let left = c.in_ok-leave_pending-in-Type.ensures in
     put-left c.args.rounds.now c.projected.new.rounds c.args.goal c.args.projection.0 c.args.projection.1 c.projected.ensures.stays c.requires.fit c.requires.projection c.with_type_for.new.make c.in-Type.ty

@@ -1,5 +1,4 @@
-use Rattle.std.proofs.Common.{rules, ◌≡◌, sym, subst}
-use Rattle.ir_trees.specs.declared.ir.kinds.AliasTy.{AliasTy}
+use Rattle.std.proofs.Common.{rules, ◌≡◌, subst}
 use Rattle.ir_trees.specs.declared.ir.kinds.TyKind.{TyKind}
 use Rattle.ir_trees.specs.declared.ir.kinds.TyKind.TheVariants as K
 use Rattle.ir_trees.specs.declared.ir.kinds.ClauseKind.TheVariants as CK
@@ -7,7 +6,7 @@ use Rattle.ir_trees.specs.Declarations.Context.{world}
 use Rattle.ir_trees.specs.Declarations.References.{Takes}
 use Rattle.ir_trees.specs.Syntax.Words.{clause_tree, kind_tree}
 use Rattle.candidate_rounds.specs.Table.Trying.{Says, projection_of}
-use Rattle.candidate_rounds.proofs.Obligations.Projecting.{alias-is, clause-read, term-is}
+use Rattle.candidate_rounds.proofs.Obligations.Projecting.{clause-read}
 use Rattle.overlaps.proofs.Jointly.{said-as-read}
 use Rattle.overlaps.proofs.together.said_of_projection.Goals as goal
 

@@ -9,6 +9,7 @@ use Rattle.derivations.proofs.Declared.{answer_derived}
 use Rattle.candidate_rounds.proofs.Evaluators.Between.{parts}
 use Rattle.candidate_rounds.proofs.Table.Derived.{derived-beside}
 use Rattle.candidate_rounds.proofs.Table.Finding.{only-place}
+use Rattle.candidate_rounds.proofs.Table.Noted.{goes-sure}
 use Rattle.candidate_rounds.proofs.Table.Rounding.{goes-stays, no-verdict, place-below, place-verdict}
 use Rattle.candidate_rounds.proofs.Table.Running.{seen-length}
 use Rattle.rounds_judge.specs.Table.GoalTable.{verdict_in}
@@ -79,3 +80,12 @@ returns-clause-yes c =
     let k = key_at (state r) (trait_goal r.context.trees c.args.param_env c.args.predicate) in
     subst (AnswerIsDerived s.context (listing s) (table_of s) k) (sym (returns-clause-is c))
     (subst (λ T. AnswerIsDerived s.context (listing s) T k (verdict_in (table_of r) k)) (sym g.1) (answer_derived s.context (listing s) (table_of r) k (derived-beside r s g.0 (table_of r) (parts c.recall_well_kept.ensures).derived)))
+
+pub returns-in_err-key-clause-sure : goal.returns-in_err-key-clause-sure
+returns-in_err-key-clause-sure c = goes-sure c.args.self.now c.key_for.new.self c.recall_well_kept.ensures c.key_for.ensures.goes
+
+pub returns-in-Some-clause-sure : goal.returns-in-Some-clause-sure
+returns-in-Some-clause-sure c = goes-sure c.args.self.now c.key_for.new.self c.recall_well_kept.ensures c.key_for.ensures.goes
+
+pub returns-clause-sure : goal.returns-clause-sure
+returns-clause-sure c = goes-sure c.args.self.now c.key_for.new.self c.recall_well_kept.ensures c.key_for.ensures.goes

@@ -2,13 +2,15 @@ use Rattle.std.proofs.Common.{◌≡◌, reverse, IfOk, ◌∙◌, ap, subst}
 use Rattle.std.specs.Prelude.{IfErr}
 use Rattle.candidate_eval.specs.Outcomes.ResponseTrees.{response_of}
 use Rattle.candidate_rounds.specs.Evaluators.Known.{Evaluator, GoesOn, probes, state}
-use Rattle.candidate_rounds.specs.Evaluators.Stopping.{IsResponseStop}
+use Rattle.ir_trees.proofs.Growth.Kept.{grows-refl}
+use Rattle.candidate_rounds.specs.Evaluators.Stopping.{IsResponseStop, response_memory}
+use Rattle.candidate_rounds.proofs.Stops.ResponseStops.{passed-growth}
 use Rattle.rounds_judge.specs.Obligations.Responding.{response}
 use Rattle.candidate_rounds.proofs.Snapshots.Knowing.{probes-grow, state-stays}
 use Rattle.candidate_rounds.proofs.Snapshots.Holding.{kinds-now}
 use Rattle.candidate_rounds.proofs.Snapshots.ResolvedValues.{evaluator-grown}
 use Rattle.candidate_rounds.proofs.Evaluators.Between.{parts}
-use Rattle.candidate_rounds.proofs.Evaluators.Going.{goes-context}
+use Rattle.candidate_rounds.proofs.Evaluators.Going.{goes-context, goes-refl}
 use Rattle.candidate_rounds.proofs.rounds.Rounds.make_canonical_response.Goals as goal
 
 pub response-requires-clause-kinds : goal.response-requires-clause-kinds
@@ -45,3 +47,13 @@ returns-clause-goes c =
     let i = c.self.inside in
     let v : Evaluator = record { context = i.cx; mode = i.mode; normal = record { pairs = i.normal.items; is_open = i.opens }; opaques = i.opaques.items; goals = i.goals; inference = i.inference; marks = reverse i.probes.items } in
     subst (λ (e : Evaluator). GoesOn e (record v { context = c.response.new.cx })) c.self.view_is (goes-context v c.response.new.cx c.response.ensures.grows c.response.ensures.faults)
+
+pub returns-in_err-leaks-clause-goes : goal.returns-in_err-leaks-clause-goes
+returns-in_err-leaks-clause-goes c = goes-refl c.args.self.now
+
+pub returns-in_err-leaks-clause-grows : goal.returns-in_err-leaks-clause-grows
+returns-in_err-leaks-clause-grows c = grows-refl c.args.self.now.context
+
+pub returns-in_err-leaks-clause-cause : goal.returns-in_err-leaks-clause-cause
+returns-in_err-leaks-clause-cause c =
+    passed-growth (IsResponseStop c.args.self.now.context.trees (state c.args.self.now)) c.from_residual.result c.in_err-leaks.field-0.0 c.from_residual.ensures.1 c.in_err-leaks.ensures response_memory

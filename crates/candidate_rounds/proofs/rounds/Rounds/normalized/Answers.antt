@@ -19,7 +19,7 @@ use Rattle.candidate_rounds.specs.Table.DerivedNormals.{SureIsDerived}
 use Rattle.candidate_rounds.specs.Table.Goals.{key_seen}
 use Rattle.candidate_rounds.specs.Table.Normalized.{IsNormalizedAt, IsNormalizedBy, begun, not_begun}
 use Rattle.candidate_rounds.specs.Table.Normalizing.{rounds_shown, with_term}
-use Rattle.candidate_rounds.specs.Table.Running.{StaysBesideTable, with_table}
+use Rattle.candidate_rounds.specs.Table.Running.{StaysBesideTable, judged_by, with_table}
 use Rattle.candidate_rounds.proofs.Evaluators.Between.{parts}
 use Rattle.candidate_rounds.proofs.Table.Computing.{back-holds, back-stays, back-table, out-holds, out-state, restore_state, suspend_state}
 use Rattle.candidate_rounds.proofs.Table.DerivedNormals.{answer-sure}
@@ -116,7 +116,7 @@ returns-clause-answer c =
     let x = suspend_state m start.inference in
     let answered = subst (λ (y : Evaluator). IsAnsweredBy rounds_shown (always None) tt (answers_rigid rounds_shown start.param_env start.goal) tt normalizes_kind y start.param_env start.goal c.args.way c.normalize_here-answer.result n) aside.out c.normalize_here-answer.ensures.answered in
     let goes = goes-stays r m c.recall_well_kept.ensures c.start_with_term.ensures.goes c.start_with_term.ensures.state in
-    let same : fixed x ≡ with_table (fixed r) (table_of r) = fixed-there r m goes.0 goes.1 in
+    let same : judged_by x ≡ with_table (fixed r) (table_of r) = fixed-there r m goes.0 goes.1 in
     let begins : state x ≡ start_of r.mode (with_term k) = out-state m (with_term k) start.inference c.in_ok-start.ensures.inference ∙ ap (λ (y : TypingMode). start_of y (with_term k)) (ap (λ (S : State). S.mode) goes.0.state_same) in
     let well = subst IsWellFormedTable (ap (λ (y : Evaluator). y.context) c.self.view_is) c.recall_well_formed_table.ensures in
     let us = c.restore_state.new.self.context.trees in

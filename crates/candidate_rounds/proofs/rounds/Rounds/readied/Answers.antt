@@ -6,12 +6,16 @@ use Rattle.ir_trees.specs.Syntax.Trees.{Forest}
 use Rattle.rounds_judge.specs.Aliases.Listed.{Listing, listed}
 use Rattle.candidate_rounds.specs.Evaluators.Stopping.{types_put}
 use Rattle.candidate_rounds.proofs.Evaluators.Between.{parts}
-use Rattle.candidate_rounds.proofs.Evaluators.Going.{goes-listing}
+use Rattle.candidate_rounds.proofs.Evaluators.Going.{goes-listing, goes-trans}
 use Rattle.candidate_rounds.proofs.rounds.Rounds.readied.Goals as goal
 
 if-err : {A : Type 0} (r : Result A Stop) (P Q : Stop → Type 0) → ((s : Stop) → P s → Q s) → IfErr r P → IfErr r Q
 if-err (Ok x) P Q f p = tt
 if-err (Err s) P Q f p = f s p
+
+pub returns-clause-goes : goal.returns-clause-goes
+returns-clause-goes c =
+    goes-trans c.args.self.now c.resolve_args_if_possible.new.self c.with_listed_types.new.self c.resolve_args_if_possible.ensures.goes c.with_listed_types.ensures.goes
 
 pub returns-clause-cause : goal.returns-clause-cause
 returns-clause-cause c =

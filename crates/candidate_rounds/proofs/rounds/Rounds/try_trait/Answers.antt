@@ -1,9 +1,10 @@
-use Rattle.std.proofs.Common.{◌≡◌, None, Some, sym, ◌∙◌, subst}
+use Rattle.std.proofs.Common.{◌≡◌, true, None, Some, sym, ◌∙◌, subst}
 use Rattle.std.proofs.lemmas.Result.{err_from_is_err_and}
 use Rattle.ir_trees.specs.Syntax.Words.{clause_tree, env_forest}
 use Rattle.candidate_eval.specs.Outcomes.ResponseTrees.{response_of}
 use Rattle.candidate_rounds.specs.Table.Goals.{goal_seen, key_seen}
-use Rattle.candidate_rounds.specs.Evaluators.Known.{listing, reads, state}
+use Rattle.candidate_rounds.specs.Table.Trying.{answered_trait}
+use Rattle.candidate_rounds.specs.Evaluators.Known.{Evaluator, GoesOn, listing, reads, state}
 use Rattle.candidate_rounds.specs.Evaluators.Stopping.{IsGivingStop, IsTraitStop, held, of_asking, of_key}
 use Rattle.candidate_rounds.proofs.Table.Asking.{asked-given, asked-missing, asked-not-given, asked-open, asked-refused, giving-stop, not-entered, unread-stop}
 use Rattle.candidate_rounds.proofs.Table.Requested.{given-not, none-requested, requested-same}
@@ -69,7 +70,8 @@ pub returns-in_err-give-in-Yes-clause-goes : goal.returns-in_err-give-in-Yes-cla
 returns-in_err-give-in-Yes-clause-goes c = goes-trans c.args.self.now c.key_of.new.self c.give.new.self c.key_of.ensures.goes c.give.ensures.goes
 
 pub returns-in_ok-give-in-Yes-clause-goes : goal.returns-in_ok-give-in-Yes-clause-goes
-returns-in_ok-give-in-Yes-clause-goes c = goes-trans c.args.self.now c.key_of.new.self c.give.new.self c.key_of.ensures.goes c.give.ensures.goes
+returns-in_ok-give-in-Yes-clause-goes c =
+    subst (GoesOn c.args.self.now) (sym c.note_leak.ensures) (goes-trans c.args.self.now c.key_of.new.self c.give.new.self c.key_of.ensures.goes c.give.ensures.goes)
 
 pub returns-in_err-give-in-Yes-clause-refused : goal.returns-in_err-give-in-Yes-clause-refused
 returns-in_err-give-in-Yes-clause-refused c =
@@ -88,9 +90,10 @@ returns-in_ok-give-in-Yes-clause-ok c =
     let old = c.args.self.now in
     let mid = c.key_of.new.self in
     let asked = c.in_ok-asked.ensures in
-    asked-given (reads old) (reads mid) (state old) (state mid) (goal_seen old.context.trees c.args.goal) (key_seen mid.context.trees c.in_ok-asked.asked.key) c.in_ok-asked.asked.numbers.items
+    subst (λ (e : Evaluator). answered_trait (reads old) (state old) (goal_seen old.context.trees c.args.goal) ≡ Some (true, state e)) (sym c.note_leak.ensures)
+    (asked-given (reads old) (reads mid) (state old) (state mid) (goal_seen old.context.trees c.args.goal) (key_seen mid.context.trees c.in_ok-asked.asked.key) c.in_ok-asked.asked.numbers.items
     (goes-reads old mid c.key_of.ensures.goes c.recall_well_kept.ensures) c.key_of.ensures.state asked.key asked.numbers asked.bare (response_of mid.context.trees c.in_ok-response-in-Yes.response) (state c.give.new.self) c.in_ok-response-in-Yes.ensures.read
-    (subst (λ ns. given (listing mid) (state mid) (key_seen mid.context.trees c.in_ok-asked.asked.key) ns (response_of mid.context.trees c.in_ok-response-in-Yes.response) ≡ Some (state c.give.new.self)) c.as_slice.ensures.value c.in_ok-give-in-Yes.ensures.ok)
+    (subst (λ ns. given (listing mid) (state mid) (key_seen mid.context.trees c.in_ok-asked.asked.key) ns (response_of mid.context.trees c.in_ok-response-in-Yes.response) ≡ Some (state c.give.new.self)) c.as_slice.ensures.value c.in_ok-give-in-Yes.ensures.ok))
 
 pub returns-in_err-give-in-Yes-clause-cause : goal.returns-in_err-give-in-Yes-clause-cause
 returns-in_err-give-in-Yes-clause-cause c =

@@ -1,0 +1,26 @@
+use Rattle.std.proofs.Common.{◌≡◌, false, subst, ◌∙◌}
+use Rattle.std.specs.Option.{option_map}
+use Rattle.candidate_assembly.specs.Goals.TraitGoals.{trait_goal}
+use Rattle.candidate_eval.proofs.Interface.Accounts.{memory-somehow}
+use Rattle.candidate_rounds.proofs.Table.Running.{stays-refl}
+use Rattle.overlaps.proofs.Stopping.{asking-stop, later-refl, passed-on, step-stop}
+use Rattle.overlaps.proofs.Uncertainty.{no-then}
+use Rattle.overlaps.specs.Answered.{HoldsForAll}
+use Rattle.overlaps.specs.Stopping.{IsOverlapStop, step_key}
+use Rattle.overlaps.proofs.negation.holds_for_all.Goals as goal
+
+pub returns-then-not-stands_here-clause-stays : goal.returns-then-not-stands_here-clause-stays
+returns-then-not-stands_here-clause-stays c = stays-refl c.args.rounds.now
+
+pub returns-in_err-verdict-clause-cause : goal.returns-in_err-verdict-clause-cause
+returns-in_err-verdict-clause-cause c =
+    passed-on (IsOverlapStop c.args.rounds.now c.entry.new.self) c.from_residual.result c.in_err-verdict.field-0.0 c.from_residual.ensures.1
+    (step-stop (later-refl c.args.rounds.now) (step_key (trait_goal c.args.rounds.now.context.trees c.args.env c.args.predicate) c.in_err-verdict.ensures.cause))
+
+pub returns-in_err-leaks-clause-cause : goal.returns-in_err-leaks-clause-cause
+returns-in_err-leaks-clause-cause c =
+    passed-on (IsOverlapStop c.args.rounds.now c.entry.new.self) c.from_residual-in_err-leaks.result c.in_err-leaks.field-0.0 c.from_residual-in_err-leaks.ensures.1
+    (asking-stop (later-refl c.args.rounds.now) (memory-somehow c.in_err-leaks.ensures.cause))
+
+pub returns-clause-holds : goal.returns-clause-holds
+returns-clause-holds c = λ yes. subst HoldsForAll c.in_ok-verdict.ensures.is (c.in_ok-leaks.ensures.no (no-then c.in_ok-leaks.leaks yes))
