@@ -2,8 +2,8 @@
 //! crate's.
 
 use rilgomut::{
-    AdtFlags, AdtShape, Build, Cx, DeclsBuilder, GenericArg, Global, InCrate, InferTy, IsFirstInputType, NormalizeErr, OrphanCheckErr, OrphanCheckMode, Shown,
-    TraitFlags, TraitRef, Ty, TyKind, UintTy, VarKind, orphan_check_trait_ref,
+    AdtFlags, AdtShape, Build, Cx, DeclsBuilder, Global, InCrate, InferTy, IsFirstInputType, Making, NormalizeErr, OrphanCheckErr, OrphanCheckMode, Shown,
+    TraitFlags, Ty, TyKind, UintTy, VarKind, orphan_check_trait_ref,
 };
 use std::convert::Infallible;
 use std::error::Error;
@@ -41,14 +41,11 @@ fn main() -> Result<(), Box<dyn Error>> {
     let names = ["Show", "Box", "Local"];
 
     let mut cx = Cx::new(builder.finish()?);
-    let none = cx.mk_args(&[])?;
     // A parameter of the impl is a variable: the check asks of each type that may stand there.
     let parameter = cx.mk_ty(TyKind::Infer(InferTy::TyVar(0)))?;
-    let of_parameter = cx.mk_args(&[GenericArg::Ty(parameter)])?;
-    for kind in [TyKind::Uint(UintTy::U8), TyKind::Adt(local, none), TyKind::Adt(boxed, of_parameter)] {
-        let ty = cx.mk_ty(kind)?;
-        let args = cx.mk_args(&[GenericArg::Ty(ty)])?;
-        let header = TraitRef { def_id: show, args };
+    let types = [cx.mk_ty(TyKind::Uint(UintTy::U8))?, cx.mk_adt(local, &[])?, cx.mk_adt(boxed, &[parameter])?];
+    for ty in types {
+        let header = cx.mk_trait_ref(show, &[ty])?;
         let in_crate = InCrate::Local { mode: OrphanCheckMode::Proper };
         let checked = orphan_check_trait_ref(Global, &mut cx, header, in_crate, |_, ty| Ok::<_, NormalizeErr<Infallible>>(ty))?;
         let shown = Shown::new(&cx, &names);

@@ -21,34 +21,27 @@
 //! ```
 //! use rilgomut::*;
 //!
-//! /// The reference `TYPE: TRAIT`.
-//! fn reference(builder: &mut DeclsBuilder, def_id: TraitId, kind: TyKind) -> Result<TraitRef, Stop> {
-//!     let ty = builder.mk_ty(kind)?;
-//!     let args = builder.mk_args(&[GenericArg::Ty(ty)])?;
-//!     Ok(TraitRef { def_id, args })
-//! }
-//!
 //! # fn main() -> Result<(), Box<dyn std::error::Error>> {
 //! let mut builder = DeclsBuilder::new(Global);
 //! let (this, other) = (builder.add_crate()?, builder.add_crate()?);
 //! builder.set_local(this);
 //! let known = builder.add_trait(this, &[], TraitFlags::default())?;
 //! let show = builder.add_trait(other, &[], TraitFlags::default())?;
+//! let byte = builder.mk_ty(TyKind::Uint(UintTy::U8))?;
+//! let truth = builder.mk_ty(TyKind::Bool)?;
+//! let parameter = builder.mk_ty(TyKind::Param(0))?;
 //!
 //! // impl Known for u8 {}
-//! let header = reference(&mut builder, known, TyKind::Uint(UintTy::U8))?;
+//! let header = builder.mk_trait_ref(known, &[byte])?;
 //! builder.add_impl(this, &[], header, ImplPolarity::Positive)?;
 //! // impl Show for bool {}
-//! let header = reference(&mut builder, show, TyKind::Bool)?;
+//! let header = builder.mk_trait_ref(show, &[truth])?;
 //! let first = builder.add_impl(this, &[], header, ImplPolarity::Positive)?;
 //! // impl<T: Known> Show for T {}
-//! let header = reference(&mut builder, show, TyKind::Param(0))?;
+//! let header = builder.mk_trait_ref(show, &[parameter])?;
 //! let second = builder.add_impl(this, &[VarKind::Ty], header, ImplPolarity::Positive)?;
-//! let trait_ref = reference(&mut builder, known, TyKind::Param(0))?;
-//! let polarity = PredicatePolarity::Positive;
-//! let bound = ClauseKind::Trait(TraitPredicate { trait_ref, polarity });
-//! let vars = builder.mk_vars(&[])?;
-//! let bound = builder.mk_clause(Binder { vars, value: bound })?;
+//! let bound = builder.mk_trait_ref(known, &[parameter])?;
+//! let bound = builder.mk_trait_clause(bound)?;
 //! builder.push_impl_where(second, bound)?;
 //!
 //! let cx = Cx::new(builder.finish()?);
@@ -58,42 +51,50 @@
 //! let overlap = impls_overlap(Global, &mut rounds, first, second, 65_535)?;
 //! let clause = WhereClause { of: second, number: 0 };
 //! assert_eq!(overlap, Overlap::DisjointClause(clause));
+//! let shown = Shown::new(rounds.cx(), &["Known", "Show"]);
+//! assert_eq!(shown.where_clause(clause).to_string(), "T0: Known");
 //! # Ok(())
 //! # }
 //! ```
 //!
 //! # What to know
 //!
-//! - **Types are numbers of a context**, [`Cx`]: they are made by its methods of [`Build`], as [`Build::mk_ty`] of a [`TyKind`], and one type has one number.
-//!   [`Shown`] spells them as Rust does.
-//! - **Declarations come first**, by a [`DeclsBuilder`]. Its `finish` tests them, and its error says what is wrong.
+//! - **Types are numbers of a context**, [`Cx`]: they are made by its methods of [`Build`] and [`Making`], as [`Build::mk_ty`] of a [`TyKind`], and one type has one
+//!   number. [`Shown`] spells them as Rust does.
+//! - **Declarations come first**, by a [`DeclsBuilder`]. Its `finish` tests them. Its error says what is wrong, and `place` of it where, if one
+//!   declaration has the fault.
 //! - **A number of rounds** says how far is looked. A goal that waits for another one is computed again in the next round. 65,535 is the most, and a run ends
 //!   by itself when nothing changes any more.
-//! - **Giving up is no answer.** [`Stop`] says that a call gave up: memory, a limit, a type that is too large. `Maybe` and [`Overlap::May`] say that it
-//!   isn't known.
-//! - **Numbers of one context aren't numbers of another.** A debug build panics where a call is given a number that no node has, or one of another sort. It
-//!   tells the call's name and the number. That a number is another context's can't be told where this one has such a number, too. A release build doesn't
+//! - **Giving up is no answer.** [`Stop`] says that a call gave up: memory, a limit, a type that is too large. `Maybe` says that it isn't known, and so does
+//!   [`Overlap::May`], unless its instance is certain.
+//! - **Numbers of one context aren't numbers of another.** A debug build panics where a call is given the number of a type, a list or a clause that there
+//!   isn't, or one of another sort. It tells the call's name and the number. That a number is another context's can't be told where this one has such a number, too. A release build doesn't
 //!   ask. It may then answer for another type, or panic at an index. It does nothing undefined: there is no `unsafe` in the library. Of declarations
 //!   `finish` asks it in each build.
 //! - [`run_text`] reads declarations and queries as lines of text, without any of this.
 //!
 //! The calls take an allocator, [`Global`], as their sources do, and lists of the kit, which are made of those of Rust's std by `into()`.
 
+mod making;
 mod shown;
-#[doc(hidden)]
 pub mod worlds;
 
 // What declarations and types are made of.
+pub use candidate_ir::decl::contents::Impl;
 pub use candidate_ir::decl::make::Make;
 pub use candidate_ir::decl::{
     AdtFlags, AdtShape, AliasBoundKind, AliasShape, AssocKind, AssocValue, CrateId, DeclError, DeclFault, Decls, Destructor, FaultPlace, FnFlags, ImplId,
-    ImplPolarity, LangItem, Limits, Sizedness, TraitFlags,
+    ImplPolarity, LangItem, Limits, Owner, Sizedness, TraitFlags,
 };
 pub use candidate_ir::ir::kinds::*;
 pub use candidate_ir::ir::stop::Stop;
 pub use candidate_ir::ir::trees::Trees;
 pub use kit::alloc::{AllocError, Global};
 
+/// Takes declarations, and tests them at its end (`finish`).
+///
+/// A type that is made counts as declared, also where nothing names it: its arguments are tested by `finish`, too.
+///
 /// # Examples
 ///
 /// The declarations `trait Iterator { type Item; }` and `impl<T> Iterator for Vec<T> { type Item = T; }`:
@@ -121,6 +122,10 @@ pub use kit::alloc::{AllocError, Global};
 /// ```
 pub use candidate_ir::decl::DeclsBuilder;
 
+/// What is declared, and the types that are made over it, each of which is a number.
+///
+/// A context doesn't test what is made: [`Cx::args_fit`] and its like say whether a type has the arguments that it takes, and the caller asks them.
+///
 /// # Examples
 ///
 /// One type has one number:
@@ -141,6 +146,8 @@ pub use candidate_ir::decl::DeclsBuilder;
 /// ```
 pub use candidate_ir::decl::Cx;
 
+/// Makes types, constants, lists and clauses: a builder, a context and an evaluator do so.
+///
 /// # Examples
 ///
 /// A builder and a context make types alike:
@@ -163,11 +170,25 @@ pub use candidate_ir::decl::make::Build;
 
 // What evaluates goals.
 pub use candidate_assembly::assembly::merging::TraitGoalProvenVia;
+pub use candidate_eval::eval::certainty::Certainty;
+pub use candidate_eval::eval::response::{Candidate, CanonicalResponse};
+pub use candidate_eval::eval::source::{BuiltinImplSource, CandidateSource, ParamEnvSource};
+pub use candidate_eval::eval::variable::CanonicalVar;
+pub use candidate_rounds::rounds::derivation::{DerivationStep, DerivationTree};
+
+/// Whether goals are asked as an overlap check asks them, or as a body does.
+///
+/// Take `Coherence` for overlaps: what other crates may add counts, so that a refusal stays true. Take `Analysis` for what holds by what is declared, as in the
+/// body of a function, and `PostAnalysis` where opaque types are what they hide, too. In the modes between them opaque types are hidden in other ways.
 pub use candidate_eval::eval::mode::TypingMode;
-pub use candidate_eval::eval::response::CanonicalResponse;
-pub use candidate_rounds::rounds::derivation::DerivationTree;
 pub use candidate_rounds::rounds::goals::{GoalKey, Verdict};
 
+/// An evaluator of goals over a context.
+///
+/// [`Make::cx`] shows its context, and [`Rounds::into_parts`] gives it back. A goal's types are made by the evaluator itself. An answer means something
+/// where [`Rounds::may_be_run`] says that the goal may be asked, and [`Cx::trait_ref_args_fit`] that its trait takes the arguments: a goal has variables and
+/// placeholders, and no parameters.
+///
 /// # Examples
 ///
 /// Does `Vec<u8>: Clone` hold, by which steps, and what does `Vec<bool>: Clone` wait for?
@@ -177,7 +198,7 @@ pub use candidate_rounds::rounds::goals::{GoalKey, Verdict};
 /// # fn main() -> Result<(), Box<dyn std::error::Error>> {
 /// // impl Clone for u8 {}
 /// // impl<T: Clone> Clone for Vec<T> {}
-/// let rilgomut::worlds::Clones { cx, clone, vec, .. } = rilgomut::worlds::clones()?;
+/// let rilgomut::worlds::Clones { cx, clone, vec, names, .. } = rilgomut::worlds::clones()?;
 /// let mut rounds = Rounds::new(Global, cx, TypingMode::PostAnalysis, vec![].into(), vec![].into());
 /// let byte = rounds.mk_ty(TyKind::Uint(UintTy::U8))?;
 /// let args = rounds.mk_args(&[GenericArg::Ty(byte)])?;
@@ -192,7 +213,10 @@ pub use candidate_rounds::rounds::goals::{GoalKey, Verdict};
 /// assert!(matches!(rounds.run(Global, env, goal, 65_535)?, Verdict::Yes(..)));
 ///
 /// let tree = rounds.derivation(Global, env, goal)?.expect("a yes has a derivation");
-/// assert_eq!(tree.steps.len(), 2);
+/// let shown = Shown::new(rounds.cx(), &names);
+/// let steps: Vec<String> = tree.steps.iter().map(|step| shown.step(step).to_string()).collect();
+/// assert_eq!(steps, ["u8: Clone by impl Clone for u8", "Vec<u8>: Clone by impl<T0> Clone for Vec<T0> where T0: Clone"]);
+/// assert_eq!(*tree.steps[1].nested, [0]); // it rests on the first step
 /// assert!(rounds.check_derivation(Global, &tree)?);
 /// # Ok(())
 /// # }
@@ -225,13 +249,19 @@ pub use candidate_eval::coherence::{
     trait_ref_is_plain,
 };
 
+/// Whether a crate may write an impl for a reference, and why not.
+///
+/// A parameter of the impl stands as a variable in the reference, as `TyKind::Infer(InferTy::TyVar(0))`. The closure says what an alias is; one that answers the
+/// type itself knows none.
+///
 /// # Examples
 ///
 /// This crate may not write `impl Clone for u8`, where another one has the trait:
 ///
 /// ```
 /// # use rilgomut::*;
-/// # use std::convert::Infallible;
+/// use std::convert::Infallible;
+///
 /// # fn main() -> Result<(), Box<dyn std::error::Error>> {
 /// let rilgomut::worlds::Clones { mut cx, clone, .. } = rilgomut::worlds::clones()?;
 /// let byte = cx.mk_ty(TyKind::Uint(UintTy::U8))?;
@@ -246,13 +276,16 @@ pub use candidate_eval::coherence::{
 /// ```
 pub use candidate_eval::coherence::orphan_check_trait_ref;
 
+/// Whether all impls for a reference are known here, and which other crates may have one.
+///
 /// # Examples
 ///
 /// Another crate may add `impl Clone for bool` later, if the trait is of that crate:
 ///
 /// ```
 /// # use rilgomut::*;
-/// # use std::convert::Infallible;
+/// use std::convert::Infallible;
+///
 /// # fn main() -> Result<(), Box<dyn std::error::Error>> {
 /// let rilgomut::worlds::Clones { mut cx, clone, .. } = rilgomut::worlds::clones()?;
 /// let truth = cx.mk_ty(TyKind::Bool)?;
@@ -270,6 +303,10 @@ pub use overlaps::allowance::Allowance;
 pub use overlaps::instance::CommonInstance;
 pub use overlaps::overlap::{Overlap, WhereClause};
 
+/// Whether two impls of a trait overlap, and what keeps them apart.
+///
+/// [`Overlap::May`] is certain where its instance says so ([`CommonInstance`]). Else nothing is known of the two.
+///
 /// # Examples
 ///
 /// `impl Clone for u8` and `impl<T: Clone> Clone for Vec<T>` have no common instance:
@@ -285,6 +322,8 @@ pub use overlaps::overlap::{Overlap, WhereClause};
 /// ```
 pub use overlaps::overlap::impls_overlap;
 
+/// Whether the where clauses of two impls can't hold together.
+///
 /// # Examples
 ///
 /// The where clauses of two impls may not hold together: of `impl<T: Iterator<Item = u8>> Show for T` and `impl Show for Vec<bool>` the first one asks what
@@ -302,6 +341,8 @@ pub use overlaps::overlap::impls_overlap;
 /// ```
 pub use overlaps::together::kept_apart_by_clauses;
 
+/// Whether a where clause of one of two impls is known to be false where the other impl holds.
+///
 /// # Examples
 ///
 /// `impl<T: Clone> Show for T` and `impl Show for bool` are kept apart by `impl !Clone for bool`. That is asked outside coherence, as rustc does:
@@ -318,9 +359,13 @@ pub use overlaps::together::kept_apart_by_clauses;
 /// ```
 pub use overlaps::negation::kept_apart_by_negation;
 
+pub use making::Making;
+/// Whether an impl specialises another one: its header is an instance of the other's, whose where clauses hold there.
 pub use overlaps::specializing::specializes;
 pub use shown::{Displayed, Shown};
 
+/// Reads declarations and queries, a line each, and writes the answers: what the program does.
+///
 /// # Examples
 ///
 /// ```

@@ -1,12 +1,13 @@
 //! What numbers of a context stand for, spelled as Rust does, by `Display`.
 
-use crate::{Clause, Cx, Global, ImplId, TraitRef, Ty};
+use crate::{CandidateSource, Clause, Cx, DerivationStep, Global, ImplId, TraitRef, Ty, WhereClause};
 use kit::alloc::AllocError;
 use kit::prelude::String;
 use spelling::Spelling;
 use std::fmt;
 
-/// Spells what the numbers of a context stand for. `names` are those of traits and types in the order in which they were declared.
+/// Spells what the numbers of a context stand for. `names` are those of all definitions by their numbers: of traits, types, associated types and whatever else was
+/// declared, impls aside, in that order.
 ///
 /// # Examples
 ///
@@ -50,6 +51,22 @@ impl<'a> Shown<'a> {
         self.of(What::Header(of))
     }
 
+    /// A where clause of an impl, as `T0: Clone`; nothing where there is none of that number.
+    pub fn where_clause(self, of: WhereClause) -> Displayed<'a> {
+        let clause = self.cx.impl_contents(of.of).and_then(|found| found.wheres.get(of.number));
+        self.of(clause.map_or(What::Nothing, |clause| What::Clause(*clause)))
+    }
+
+    /// The rule by which a goal holds: the header of an impl, or the rule's name.
+    pub fn source(self, source: CandidateSource) -> Displayed<'a> {
+        self.of(What::Source(source))
+    }
+
+    /// A step of a derivation, as `u8: Clone by impl Clone for u8`.
+    pub fn step(self, step: &DerivationStep) -> Displayed<'a> {
+        self.of(What::Step(step.key.goal.predicate, step.source))
+    }
+
     fn of(self, what: What) -> Displayed<'a> {
         Displayed { shown: self, what }
     }
@@ -62,6 +79,9 @@ enum What {
     TraitRef(TraitRef),
     Clause(Clause),
     Header(ImplId),
+    Source(CandidateSource),
+    Step(Clause, CandidateSource),
+    Nothing,
 }
 
 /// Something of a context, which `Display` spells. Writing it fails where memory is refused.
@@ -79,8 +99,27 @@ impl Displayed<'_> {
             What::TraitRef(trait_ref) => spelling.add_reference(trait_ref, text),
             What::Clause(clause) => spelling.add_clause(clause, text),
             What::Header(of) => spelling.add_impl(Global, of, text).map(|_| ()),
+            What::Source(source) => add_source(&spelling, source, text),
+            What::Step(goal, source) => {
+                spelling.add_clause(goal, text)?;
+                text.push_str(" by ")?;
+                add_source(&spelling, source, text)
+            }
+            What::Nothing => Ok(()),
         }
     }
+}
+
+/// Adds the rule of a step.
+fn add_source(spelling: &Spelling, source: CandidateSource, text: &mut String) -> Result<(), AllocError> {
+    let name = match source {
+        CandidateSource::Impl(of) => return spelling.add_impl(Global, of, text).map(|_| ()),
+        CandidateSource::BuiltinImpl(_) => "a rule of the language",
+        CandidateSource::ParamEnv(_) => "a clause of the environment",
+        CandidateSource::AliasBound(_) => "a bound of an alias",
+        CandidateSource::CoherenceUnknowable => "an impl that isn't known",
+    };
+    text.push_str(name)
 }
 
 impl fmt::Display for Displayed<'_> {
