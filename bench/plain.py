@@ -296,40 +296,35 @@ def check(program):
     return counts
 
 
-def write_cargo(folder, is_linked=False):
-    """Leaves a Cargo workspace of the sources in the folder; where it `is_linked` the folder is `rust`, or one beside it."""
+def write_cargo(folder):
+    """Leaves a Cargo workspace of the sources in the folder."""
     held_prelude()
     uses = libraries()
     crates = []
     for name in (PROGRAM, "texts", "examples", SPELLING, FACADE):
         in_order(name, uses, crates)
-    plain_cargo.write_workspace(folder, ROOT, crates, uses, plain_with_docs, PRELUDE, KIT, is_linked)
+    plain_cargo.write_workspace(folder, ROOT, crates, uses, plain_with_docs, PRELUDE, KIT)
 
 
 def files_of(folder):
-    """What a folder holds, by path: a file's text or where a link leads; without what is by hand, and what cargo leaves there."""
+    """What a folder holds, by path, without what is by hand and what cargo leaves there."""
     found = {}
     for below, folders, files in os.walk(folder):
         if below == folder:
             folders[:] = [name for name in folders if name not in (plain_cargo.OWN, "target")]
-        for name in [*files, *folders]:
-            path = os.path.join(below, name)
-            if os.path.islink(path):
-                found[os.path.relpath(path, folder)] = os.readlink(path)
-            elif name in files and name != "Cargo.lock":
+        for name in files:
+            if name != "Cargo.lock":
+                path = os.path.join(below, name)
                 with open(path, "rb") as file:
                     found[os.path.relpath(path, folder)] = file.read()
     return found
 
 
 def made_rust():
-    """What the folder `rust` is to hold. It is made beside that, so that its links lead to the same."""
-    folder = tempfile.mkdtemp(prefix=".rust-", dir=ROOT)
-    try:
-        write_cargo(folder, is_linked=True)
+    """What the folder `rust` is to hold."""
+    with tempfile.TemporaryDirectory() as folder:
+        write_cargo(folder)
         return files_of(folder)
-    finally:
-        shutil.rmtree(folder)
 
 
 def others_in_rust():
@@ -348,11 +343,8 @@ def write_rust():
             os.remove(to)
         if path in made:
             os.makedirs(os.path.dirname(to), exist_ok=True)
-            if isinstance(made[path], str):
-                os.symlink(made[path], to)
-            else:
-                with open(to, "wb") as file:
-                    file.write(made[path])
+            with open(to, "wb") as file:
+                file.write(made[path])
     return len(others)
 
 

@@ -4,8 +4,6 @@ The workspace has a package for each library of the repository that the program 
 `rust/rilgomut`), `texts` that runs the texts of `crates/texts/data`, `rows` of `tests/rows`, and `kit` with what stands for the kit's std. Doc
 comments are kept, so that `cargo doc --no-deps --open` shows what each call takes and answers. Each public type has `Debug`; each error has
 `Display` and `Error`. A debug build checks numbers (`plain_checks.py`). `cargo test` runs the stored texts and the rows.
-
-In the folder `rust` links lead to the texts and rows; elsewhere these are copied.
 """
 
 import os
@@ -24,18 +22,6 @@ OWN = "rilgomut"
 
 # A feature of `kit`: growths are counted and, where a variable or a test says so, refused.
 GROWTHS = "\n[features]\ngrowths = []\n"
-
-# The tests of rows but that of growths, which names files of `texts` by a path that a link leads elsewhere.
-TESTS = """autotests = false
-
-[[test]]
-name = "answers"
-path = "tests/answers.rs"
-
-[[test]]
-name = "calls"
-path = "tests/calls/main.rs"
-"""
 
 MADE = "# Made by `bench/plain.py` of the sources in `crates`: an edit of this file is lost.\n"
 MADE_OF = "// Made of `%s` by `bench/plain.py`: an edit of this file is lost.\n\n"
@@ -273,35 +259,27 @@ def write_package(folder, name, told, uses, more=""):
     put(os.path.join(folder, name, "Cargo.toml"), MANIFEST % words)
 
 
-def link_or_copy(of, to, is_linked):
-    """What `of` names at another place: a link that leads to it, or a copy."""
-    if os.path.islink(to) or os.path.isfile(to):
-        os.remove(to)
-    if os.path.isfile(of) and not is_linked:
-        shutil.copy(of, to)
-        return
-    if is_linked:
-        shutil.rmtree(to, ignore_errors=True)
+def copy(of, to):
+    """A copy of a file, or of a folder, in which nothing else is left."""
+    if os.path.isfile(of):
         os.makedirs(os.path.dirname(to), exist_ok=True)
-        os.symlink(os.path.relpath(of, os.path.dirname(to)), to)
+        shutil.copy(of, to)
     else:
-        shutil.copytree(of, to, dirs_exist_ok=True)
+        shutil.rmtree(to, ignore_errors=True)
+        shutil.copytree(of, to)
 
 
-def write_rows(folder, root, uses, is_linked):
+def write_rows(folder, root, uses):
     """The rows with what answers them, which is Rust as it stands, and the texts."""
     for part in ("data", "src", "tests"):
-        if not is_linked:
-            shutil.rmtree(os.path.join(folder, "rows", part), ignore_errors=True)
-        link_or_copy(os.path.join(root, "tests", "rows", part), os.path.join(folder, "rows", part), is_linked)
+        copy(os.path.join(root, "tests", "rows", part), os.path.join(folder, "rows", part))
     for part in ("data", "args", "stdout"):
-        link_or_copy(os.path.join(root, "crates", "texts", part), os.path.join(folder, "texts", part), is_linked)
+        copy(os.path.join(root, "crates", "texts", part), os.path.join(folder, "texts", part))
     write_package(folder, "rows", "Rows that make and call what the libraries offer.", uses)
     manifest = os.path.join(folder, "rows", "Cargo.toml")
     with open(manifest) as file:
         text = file.read()
-    text = text.replace("kit.workspace = true", 'kit = { workspace = true, features = ["growths"] }')
-    put(manifest, text.replace("publish = false\n", "publish = false\n" + TESTS) if is_linked else text)
+    put(manifest, text.replace("kit.workspace = true", 'kit = { workspace = true, features = ["growths"] }'))
 
 
 def write_page(folder, root, name, told):
@@ -328,7 +306,7 @@ def remove_others(folder, crates):
                     os.remove(path)
 
 
-def write_workspace(folder, root, crates, uses, plain, prelude, kit, is_linked=False):
+def write_workspace(folder, root, crates, uses, plain, prelude, kit):
     """Leaves the workspace in the folder."""
     told = "What the sources use of the kit's std, by Rust's own."
     write_package(folder, "kit", told, [], more=GROWTHS)
@@ -344,8 +322,7 @@ def write_workspace(folder, root, crates, uses, plain, prelude, kit, is_linked=F
     for name, file in (("candidate_eval", "checks.rs"), ("texts", "texts.rs")):
         with open(os.path.join(root, "bench", "plain", "cargo", file)) as given:
             put(os.path.join(folder, name, "tests", file), MADE_OF % ("bench/plain/cargo/" + file) + given.read())
-    write_rows(folder, root, ["kit", *(name for name in libraries if name not in FOR_TESTS)], is_linked)
-    if not is_linked:
-        link_or_copy(os.path.join(root, "rust", OWN), os.path.join(folder, OWN), False)
+    write_rows(folder, root, ["kit", *(name for name in libraries if name not in FOR_TESTS)])
+    copy(os.path.join(root, "rust", OWN), os.path.join(folder, OWN))
     put(os.path.join(folder, "Cargo.toml"), workspace(crates, libraries))
     remove_others(folder, ["kit", *crates])

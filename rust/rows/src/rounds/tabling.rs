@@ -1,0 +1,87 @@
+//! Rows that run goals of traits in rounds, and that read what the table has of them.
+
+use crate::candidates::considering::{found_rows, goal_at};
+use crate::candidates::preferring::proved;
+use crate::evaluator::eval::Operands;
+use crate::notation::answers::{Answer, Item};
+use crate::notation::refusals::Refusal;
+use crate::notation::rows::Row;
+use candidate_eval::eval::refusal::NoSolutionOrStop;
+use candidate_ir::decl::make::Make;
+use candidate_ir::ir::kinds::{ParamEnv, TraitPredicate};
+use candidate_rounds::rounds::goals::Verdict;
+use candidate_rounds::rounds::Rounds;
+use kit::alloc::Global;
+use kit::prelude::*;
+
+/// What is printed for a verdict: how the goal is proved, and its response.
+fn said(alloc: Global, verdict: Verdict) -> Result<Answer, Refusal> {
+    let outcome = match verdict {
+        Verdict::Yes(response, via) | Verdict::Maybe(response, via) => Ok((response, via)),
+        Verdict::Refused => Err(NoSolutionOrStop::NoSolution),
+    };
+    proved(alloc, outcome)
+}
+
+/// Runs the goal for as many rounds as the row says. `Refusal::Condition` comes where that is no number above 0, and where the goal may
+/// not be run.
+fn run(
+    alloc: Global,
+    rounds: &mut Rounds,
+    row: Row<'_>,
+    env: ParamEnv,
+    predicate: TraitPredicate,
+) -> Result<Answer, Refusal> {
+    let count = row.first.parse::<u16>().unwrap_or(0);
+    if count == 0 || !rounds.may_be_run(alloc, env, predicate)? {
+        return Err(Refusal::Condition);
+    }
+    said(alloc, rounds.run(alloc, env, predicate, count)?)
+}
+
+/// What the table has of the goal.
+fn entry(
+    alloc: Global,
+    rounds: &mut Rounds,
+    env: ParamEnv,
+    predicate: TraitPredicate,
+) -> Result<Answer, Refusal> {
+    match rounds.entry(alloc, env, predicate) {
+        Ok(Some(verdict)) => said(alloc, verdict),
+        Ok(None) => Ok(Answer::One(Item::Nothing)),
+        Err(stop) => Err(Refusal::Stop(stop)),
+    }
+}
+
+/// The goal's candidates by the table. `Refusal::Condition` comes where the goal may not be run.
+fn candidates(
+    alloc: Global,
+    rounds: &mut Rounds,
+    env: ParamEnv,
+    predicate: TraitPredicate,
+) -> Result<Answer, Refusal> {
+    if !rounds.may_be_run(alloc, env, predicate)? {
+        return Err(Refusal::Condition);
+    }
+    let list = rounds.candidates(alloc, env, predicate)?;
+    found_rows(alloc, list.as_slice())
+}
+
+/// What the row asks, if it is one of these rows.
+pub(crate) fn answer(
+    alloc: Global,
+    rounds: &mut Rounds,
+    row: Row<'_>,
+    of: Operands,
+) -> Result<Answer, Refusal> {
+    let (env, predicate) = goal_at(rounds.cx(), of.left, of.right)?;
+    match row.verb {
+        "run" => run(alloc, rounds, row, env, predicate),
+        "entry" => entry(alloc, rounds, env, predicate),
+        "candidates" => candidates(alloc, rounds, env, predicate),
+        _ => {
+            let may = rounds.may_be_run(alloc, env, predicate)?;
+            Ok(Answer::One(Item::Truth(may)))
+        }
+    }
+}
