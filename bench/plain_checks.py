@@ -55,6 +55,32 @@ def asked_of(line):
     return []
 
 
+# Where a node is looked up, whether there is one, so that a check panics with its own words alone.
+LOOKED_UP = [
+    (
+        ["ir_trees", "ir", "trees"],
+        "    /// The node of a number.\n    fn node(&self, number: u32) -> &Node\n",
+        "    /// Whether there is a node of that number.\n    #[doc(hidden)]\n    fn has_node(&self, number: u32) -> bool {\n        let _ = number;\n        true\n    }\n\n",
+    ),
+    (["ir_trees", "ir", "nodes"], "    fn node(&self, number: u32) -> &Node {\n", "    fn has_node(&self, number: u32) -> bool {\n        (number as usize) < self.rows.len()\n    }\n\n"),
+    (["ir_context", "decl", "context"], "    fn node(&self, number: u32) -> &Node {\n", "    fn has_node(&self, number: u32) -> bool {\n        self.nodes.has_node(number)\n    }\n\n"),
+]
+
+
+NO_NODE = "            Some((node, _)) => node,\n            None => unreachable!(),\n"
+TOLD_NODE = '            Some((node, _)) => node,\n            None => panic!("ir_trees::ir::trees::Trees::node: no node has the number {number}"),\n'
+
+
+def with_look_ups(module, text):
+    """The text in which it can be asked whether a number has a node."""
+    for of, before, added in LOOKED_UP:
+        if of == module:
+            if text.count(before) != 1:
+                raise ValueError("%s looks up nodes in another way" % "::".join(module))
+            text = text.replace(before, added + before)
+    return text.replace(NO_NODE, TOLD_NODE) if module == LOOKED_UP[1][0] else text
+
+
 def asserted(call, below, context, of):
     """The line that asks it of a number, or of all numbers in what is to be made."""
     if of == WHOLE:
@@ -64,6 +90,7 @@ def asserted(call, below, context, of):
 
 def with_checks(crate, module, text):
     """The text of a source in Rattle, where each public call checks the numbers that it is given."""
+    text = with_look_ups(module, text)
     below, made = ("crate" if crate == name else name for name in ("ir_trees", "ir_context"))
     lines, holder, is_trait, taken, call = [], "", False, [], None
     for line in text.split("\n"):

@@ -30,7 +30,7 @@ pub mod checks {
         ($($of:ident by $pattern:pat),*) => {
             $(impl Sorted for $of {
                 fn is_of<T: Trees + ?Sized>(self, trees: &T) -> bool {
-                    matches!(trees.node(self.0), $pattern)
+                    trees.has_node(self.0) && matches!(trees.node(self.0), $pattern)
                 }
             })*
         };
@@ -60,7 +60,7 @@ pub mod checks {
 
     /// Whether it is a number of these trees, and of its sort.
     pub fn is_sorted<T: Trees + ?Sized, S: Sorted>(trees: &T, of: S) -> bool {
-        std::panic::catch_unwind(std::panic::AssertUnwindSafe(|| of.is_of(trees))).unwrap_or(false)
+        of.is_of(trees)
     }
 
     /// Whether all numbers in what is to be made are of these trees, and of their sorts.

@@ -245,6 +245,10 @@ impl Trees for Cx {
         self.nodes.recall_distinct();
     }
 
+    fn has_node(&self, number: u32) -> bool {
+        self.nodes.has_node(number)
+    }
+
     fn node(&self, number: u32) -> &Node {
         self.nodes.node(number)
     }

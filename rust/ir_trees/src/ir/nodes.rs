@@ -45,10 +45,14 @@ impl Trees for Nodes {
         let _rows = self.rows.len();
     }
 
+    fn has_node(&self, number: u32) -> bool {
+        (number as usize) < self.rows.len()
+    }
+
     fn node(&self, number: u32) -> &Node {
         match self.rows.get_index(number as usize) {
             Some((node, _)) => node,
-            None => unreachable!(),
+            None => panic!("ir_trees::ir::trees::Trees::node: no node has the number {number}"),
         }
     }
 }

@@ -34,6 +34,13 @@ pub trait Trees: Sized {
     fn recall_distinct(&self)
         ;
 
+    /// Whether there is a node of that number.
+    #[doc(hidden)]
+    fn has_node(&self, number: u32) -> bool {
+        let _ = number;
+        true
+    }
+
     /// The node of a number.
     fn node(&self, number: u32) -> &Node
         ;
