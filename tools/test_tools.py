@@ -504,6 +504,8 @@ class Texts(unittest.TestCase):
         for second, kind in (("impl_user_4", "overlap"), ("impl_user_9", "maybe")):
             answer = "impl impl_user_3 (line 1) and impl %s (line 2): overlap Show u8" % second
             self.assertEqual([finding.kind for finding in read_findings([answer], impls)], [kind])
+        leak = read_findings(["impl impl_user_3 (line 1) and impl impl_user_4 (line 2): lint leak Show u8"], impls)[0]
+        self.assertEqual((leak.kind, leak.answer), ("maybe", "Show u8"))
         self.assertEqual([impls["impl_user_%d" % number].is_whole() for number in (3, 8, 9, 27)], [True, False, False, False])
 
     def test_lints(self):

@@ -1,5 +1,5 @@
 -- Findings that are added one after the other, over a context that goes on.
-use Rattle.std.proofs.Common.{◌≡◌, ◌∙◌, ◌++◌, ◌∷◌, arith, ◌+◌, ◌<◌, ℕ, zero, suc, List, [], Option, Result, Some, Ok, Err, OnOk, IfErr, IfOk, length, slice_get, slice_index_or, refl, sym, ap, subst, take}
+use Rattle.std.proofs.Common.{◌≡◌, ◌∙◌, ◌++◌, ◌∷◌, ◌&&◌, if◌then◌else◌, false, arith, ◌+◌, ◌<◌, ℕ, zero, suc, List, [], Option, Result, Some, Ok, Err, OnOk, IfErr, IfOk, length, slice_get, slice_index_or, refl, sym, ap, subst, take}
 use Rattle.std.specs.Prelude.{string_bytes}
 use Rattle.std.proofs.lemmas.List.{append-nil, append_assoc, take-take}
 use Rattle.std.proofs.Math.Nat.{le_refl}
@@ -20,10 +20,12 @@ use Rattle.assembly_text.specs.Specializing.{IsFoundOf, IsPairStop, IsTestStoppe
 use Rattle.assembly_text.proofs.Compared.{found-before, stop-before}
 use Rattle.assembly_text.specs.declared.asking.Asking.{Asking}
 use Rattle.assembly_notation.specs.declared.given.Given.{Given}
+use Rattle.assembly_notation.specs.declared.names.NamedImpl.{NamedImpl}
 use Rattle.assembly_notation.specs.declared.names.Names.{Names}
 use Rattle.assembly_text.specs.Asking.{declared_part}
-use Rattle.assembly_text.specs.Checking.{Adds, AddsFound, AddsOfAll, AddsOfImpl, AddsOfImpls, AddsOfLine, AddsOfLines, AddsOfPair, AddsOfPairs, AddsTest, AddsWithOthers, IsDeclaredAlone, SaysFindings, SaysFindingsOfLine, SaysOfImpl, SaysOfImpls, SaysOfLine, SaysOfLines, SaysOfPair, SaysOfPairs, SaysWithOthers, Stays, and_impl, and_line, and_pair, line_stop, no_impl, no_line, no_pair, not_asked, not_so, or_ok, orphan, orphan_stop, overlap, overlap_stop, pair_text, passes, quiet, refused, so, special, stop_text, stopped_text}
-use Rattle.assembly_text.specs.Overlapping.{instance_text}
+use Rattle.assembly_text.specs.Checking.{Adds, AddsFound, AddsOfAll, AddsOfImpl, AddsOfImpls, AddsOfLine, AddsOfLines, AddsOfPair, AddsOfPairs, AddsTest, AddsWithOthers, IsDeclaredAlone, SaysFindings, SaysFindingsOfLine, SaysOfImpl, SaysOfImpls, SaysOfLine, SaysOfLines, SaysOfPair, SaysOfPairs, SaysWithOthers, Stays, and_impl, and_line, and_pair, found_text, line_stop, no_impl, no_line, no_pair, not_asked, not_so, or_ok, orphan, orphan_stop, overlap, overlap_stop, pair_text, passes, quiet, refused, so, says_yes, special, stop_text, stopped_text}
+use Rattle.overlaps.specs.declared.instance.CommonInstance.{CommonInstance}
+use Rattle.assembly_text.specs.Overlapping.{AddsAfter, instance_text}
 use Rattle.assembly_text.specs.Paired.{IsPairedHere}
 use Rattle.assembly_notation.specs.Lines.{rounds_of_line}
 use Rattle.assembly_notation.proofs.Giving.{take-extends}
@@ -68,10 +70,28 @@ impl-before names a b i _ w (passes c t v h e) = passes c t (grows-trans a b c w
 impl-before names a b i _ w (refused c t v h is says) = refused c t (grows-trans a b c w v) h is says
 impl-before names a b i _ w (orphan_stop c t s v h by) = orphan_stop c t s (grows-trans a b c w v) h by
 
+-- an impl says the same of whether its trait holds, so that an instance is told in the same words
+words-before : (a b : Context) → Grows a b → (x : CommonInstance) (i j : ImplId) → found_text a i j x ≡ found_text b i j x
+words-before a b w x i j =
+    let p = impl-same a b i w in
+    let q = impl-same a b j w in
+    ap (λ (o : Option Impl × Option Impl).
+    if x.leaks && (maybe false (λ (y : Impl). says_yes y.polarity) o.0 && maybe false (λ (y : Impl). says_yes y.polarity) o.1) then 108 ∷ 105 ∷ 110 ∷ 116 ∷ 32 ∷ 108 ∷ 101 ∷ 97 ∷ 107 ∷ 32 ∷ [] else instance_text x) (λ n. (sym p n, sym q n))
+
+-- What is added of two impls by a later context is so by an earlier one.
+pub adds-earlier : (c d : Context) (names : List NamedImpl) (a b : ImplId) (r : Result Found Stop) (made : Result (Unit {0}) Stop) (old new : List ℕ) → Grows c d → OnOk made (AddsFound d names a b r old new)
+    → OnOk made (AddsFound c names a b r old new)
+adds-earlier c d names a b r (Err s) old new w e = tt
+adds-earlier c d names a b (Ok found.Nothing) (Ok x) old new w e = e
+adds-earlier c d names a b (Ok (found.Instance i)) (Ok x) old new w e = subst (λ (t : List ℕ). AddsAfter t (old ++ pair_text names a b) new) (sym (words-before c d w i a b)) e
+adds-earlier c d names a b (Ok (found.Specializes s t)) (Ok x) old new w e = e
+adds-earlier c d names a b (Err s) (Ok x) old new w e = e
+
 module _ (names : Names) (g : Given) (count : ℕ) (a b : Context) (w : Grows a b) where
   pair-before : (i j : ImplId) (text : List ℕ) → SaysOfPair names b g count i j text → SaysOfPair names a g count i j text
   pair-before i j _ (quiet h) = quiet (found-before a b w g count i j found.Nothing h)
-  pair-before i j _ (overlap x word h) = overlap x word (found-before a b w g count i j (found.Instance x) h)
+  pair-before i j _ (overlap x word h) =
+      subst (λ (t : List ℕ). SaysOfPair names a g count i j (pair_text names.impls.items i j ++ (t ++ (word ++ 10 ∷ [])))) (words-before a b w x i j) (overlap x word (found-before a b w g count i j (found.Instance x) h))
   pair-before i j _ (special s t h) = special s t (found-before a b w g count i j (found.Specializes s t) h)
   pair-before i j _ (overlap_stop s h m) = overlap_stop s (stop-before a b w g s h) m
 
@@ -108,11 +128,11 @@ module _ (names : Names) (g : Given) (count : ℕ) (a b : Context) (w : Grows a 
 
 -- What is said of two impls.
 pub adds-pair : (names : Names) (g : Given) (count : ℕ) (c : Context) (a b : ImplId) (r : Result Found Stop) (made : Result (Unit {0}) Stop) (old new : List ℕ) → IfOk r (IsFoundOf c g count a b)
-    → IfErr r (IsPairStop c g) → OnOk made (AddsFound names.impls.items a b r old new) → OnOk made (Adds (SaysOfPair names c g count a b) old new)
+    → IfErr r (IsPairStop c g) → OnOk made (AddsFound c names.impls.items a b r old new) → OnOk made (Adds (SaysOfPair names c g count a b) old new)
 adds-pair names g count c a b r (Err s) old new is why e = tt
 adds-pair names g count c a b (Ok found.Nothing) (Ok x) old new is why e = adds-nothing _ old new (quiet is) e
 adds-pair names g count c a b (Ok (found.Instance i)) (Ok x) old new is why (word, e) =
-    adds-text (SaysOfPair names c g count a b) old _ new (overlap i word is) (e ∙ append_assoc old (pair_text names.impls.items a b) (instance_text i ++ (word ++ 10 ∷ [])))
+    adds-text (SaysOfPair names c g count a b) old _ new (overlap i word is) (e ∙ append_assoc old (pair_text names.impls.items a b) (found_text c a b i ++ (word ++ 10 ∷ [])))
 adds-pair names g count c a b (Ok (found.Specializes s t)) (Ok x) old new is why e = adds-text (SaysOfPair names c g count a b) old _ new (special s t is) e
 adds-pair names g count c a b (Err s) (Ok x) old new is why (m, e) =
     adds-text (SaysOfPair names c g count a b) old _ new (overlap_stop s why m) (e ∙ append_assoc old (pair_text names.impls.items a b) (stop_text s))

@@ -1,8 +1,10 @@
 -- What `check` finds: of each impl alone, and of it with later ones, a line that names them and says what a call answered of them; or nothing, where
 -- a call has answered that there is nothing to find.
-use Rattle.std.specs.Prelude.{◌≡◌, ◌<◌, ◌==◌, ◌&&◌, ◌++◌, ◌∷◌, [], ℕ, zero, suc, Bool, false, not, Option, Some, None, List, Result, Ok, Err, ◌⊎◌, length, slice_get, string_bytes, take}
+use Rattle.std.specs.Prelude.{◌≡◌, ◌<◌, ◌==◌, ◌&&◌, ◌++◌, ◌∷◌, [], ℕ, zero, suc, Bool, true, false, not, if◌then◌else◌, Option, Some, None, List, Result, Ok, Err, ◌⊎◌, length, slice_get, string_bytes, take}
 use Rattle.std.specs.Fmt.{decimal}
 use Rattle.ir_trees.specs.declared.decl.contents.ImplId.{ImplId}
+use Rattle.ir_trees.specs.declared.decl.contents.ImplPolarity.{ImplPolarity}
+use Rattle.ir_trees.specs.declared.decl.contents.ImplPolarity.TheVariants as polarity
 use Rattle.ir_trees.specs.declared.ir.kinds.TraitRef.{TraitRef}
 use Rattle.ir_trees.specs.declared.ir.stop.Stop.{Stop}
 use Rattle.ir_trees.specs.declared.ir.stop.Stop.TheVariants as S
@@ -28,7 +30,7 @@ use Rattle.assembly_notation.specs.declared.names.Origin.{Origin}
 use Rattle.assembly_notation.specs.declared.names.Origin.TheVariants as origin
 use Rattle.assembly_notation.specs.declared.names.Names.{Names}
 use Rattle.assembly_notation.specs.Lines.{rounds_of_line}
-use Rattle.assembly_text.specs.Overlapping.{AddsInstance, instance_text}
+use Rattle.assembly_text.specs.Overlapping.{AddsAfter, instance_text}
 use Rattle.assembly_text.specs.Paired.{IsOpenHeader, IsPairedHere}
 use Rattle.assembly_text.specs.Printing.{AddsAnswer, IsCheckText}
 use Rattle.assembly_text.specs.Specializing.{IsFoundOf, IsPairStop, IsTestStopped, IsTested, specialized_by}
@@ -62,6 +64,22 @@ lint_text names a = place_text names a ++ 58 ∷ 32 ∷ 108 ∷ 105 ∷ 110 ∷ 
 abbrev pub pair_text : List NamedImpl → ImplId → ImplId → List ℕ
 pair_text names a b = place_text names a ++ ((32 ∷ 97 ∷ 110 ∷ 100 ∷ 32 ∷ []) ++ (place_text names b ++ 58 ∷ 32 ∷ []))
 
+-- the impl says that its trait holds
+
+abbrev pub says_yes : ImplPolarity → Bool
+says_yes polarity.Positive = true
+says_yes _ = false
+
+abbrev pub is_positive_impl : Context → ImplId → Bool
+is_positive_impl c a = maybe false (λ i. says_yes i.polarity) (impl_at c a)
+
+-- `lint leak `, where the headers of two positive impls leak a region; and else what `overlap` says
+abbrev pub found_text : Context → ImplId → ImplId → CommonInstance → List ℕ
+found_text c a b x =
+    if x.leaks && (is_positive_impl c a && is_positive_impl c b)
+    then 108 ∷ 105 ∷ 110 ∷ 116 ∷ 32 ∷ 108 ∷ 101 ∷ 97 ∷ 107 ∷ 32 ∷ []
+    else instance_text x
+
 -- `impl A (line N) specializes impl B (line M)`
 abbrev pub special_text : List NamedImpl → ImplId → ImplId → List ℕ
 special_text names a b =
@@ -93,13 +111,13 @@ stop_text s = (115 ∷ 116 ∷ 111 ∷ 112 ∷ 32 ∷ []) ++ (decimal (stop_numb
 abbrev pub Adds : (List ℕ → Type 0) → List ℕ → List ℕ → Type 0
 Adds P old new = (text : List ℕ) × P text × (new ≡ old ++ text)
 
--- What is added of two impls: nothing; who they are, and what is an instance of both; that one specialises the other one; or that a call stopped, and
--- not for want of memory.
-abbrev pub AddsFound : List NamedImpl → ImplId → ImplId → Result Found Stop → List ℕ → List ℕ → Type 0
-AddsFound names a b (Ok found.Nothing) old new = new ≡ old
-AddsFound names a b (Ok (found.Instance x)) old new = AddsInstance x (old ++ pair_text names a b) new
-AddsFound names a b (Ok (found.Specializes s t)) old new = new ≡ old ++ special_text names s t
-AddsFound names a b (Err s) old new = (s ≡ S.Memory → ⊥) × (new ≡ (old ++ pair_text names a b) ++ stop_text s)
+-- What is added of two impls: nothing; who they are, and what is an instance of both, as a lint or not; that one specialises the other one; or that a
+-- call stopped, and not for want of memory.
+abbrev pub AddsFound : Context → List NamedImpl → ImplId → ImplId → Result Found Stop → List ℕ → List ℕ → Type 0
+AddsFound c names a b (Ok found.Nothing) old new = new ≡ old
+AddsFound c names a b (Ok (found.Instance x)) old new = AddsAfter (found_text c a b x) (old ++ pair_text names a b) new
+AddsFound c names a b (Ok (found.Specializes s t)) old new = new ≡ old ++ special_text names s t
+AddsFound c names a b (Err s) old new = (s ≡ S.Memory → ⊥) × (new ≡ (old ++ pair_text names a b) ++ stop_text s)
 
 -- What is added of a line by which an impl specialises another one.
 abbrev pub AddsTest : List NamedImpl → ImplId → Result Specialization Stop → List ℕ → List ℕ → Type 0
@@ -154,7 +172,7 @@ pub data SaysOfImpl (names : Names) (first : Context) (a : ImplId) : List ℕ �
 pub data SaysOfPair (names : Names) (first : Context) (g : Given) (count : ℕ) (a b : ImplId) : List ℕ → Type 0 where
   quiet : IsFoundOf first g count a b found.Nothing → SaysOfPair names first g count a b []
   overlap : (x : CommonInstance) (word : List ℕ) → IsFoundOf first g count a b (found.Instance x)
-      → SaysOfPair names first g count a b (pair_text names.impls.items a b ++ (instance_text x ++ (word ++ 10 ∷ [])))
+      → SaysOfPair names first g count a b (pair_text names.impls.items a b ++ (found_text first a b x ++ (word ++ 10 ∷ [])))
   special : (s t : ImplId) → IsFoundOf first g count a b (found.Specializes s t) → SaysOfPair names first g count a b (special_text names.impls.items s t)
   overlap_stop : (s : Stop) → IsPairStop first g s → (s ≡ S.Memory → ⊥) → SaysOfPair names first g count a b (pair_text names.impls.items a b ++ stop_text s)
 

@@ -90,13 +90,21 @@ allowance_text a (A.Specializes n) = specializes_text a n
 abbrev pub instance_text : CommonInstance → List ℕ
 instance_text x = if x.is_certain then 111 ∷ 118 ∷ 101 ∷ 114 ∷ 108 ∷ 97 ∷ 112 ∷ 32 ∷ [] else 109 ∷ 97 ∷ 121 ∷ 98 ∷ 101 ∷ 32 ∷ []
 
--- some words for the reference
+-- these words, and some for the reference
+
+abbrev pub AddsAfter : List ℕ → List ℕ → List ℕ → Type 0
+AddsAfter words old new = (word : List ℕ) × (new ≡ old ++ (words ++ (word ++ 10 ∷ [])))
+
 abbrev pub AddsInstance : CommonInstance → List ℕ → List ℕ → Type 0
-AddsInstance x old new = (word : List ℕ) × (new ≡ old ++ (instance_text x ++ (word ++ 10 ∷ [])))
+AddsInstance x = AddsAfter (instance_text x)
 
 -- Of its arguments each is whole, or where it has too many words its first ones alone.
+
+abbrev pub AddsSpelledAfter : List ℕ → Forest → List ℕ → List ℕ → Type 0
+AddsSpelledAfter words ts old new = (word : List ℕ) × AddsNamed ts [] word × (new ≡ old ++ (words ++ (word ++ 10 ∷ [])))
+
 abbrev pub AddsReferenceAfter : CommonInstance → Forest → List ℕ → List ℕ → Type 0
-AddsReferenceAfter x ts old new = (word : List ℕ) × AddsNamed ts [] word × (new ≡ old ++ (instance_text x ++ (word ++ 10 ∷ [])))
+AddsReferenceAfter x = AddsSpelledAfter (instance_text x)
 
 abbrev pub AddsOverlapWords : ImplId → Overlap → List ℕ → List ℕ → Type 0
 AddsOverlapWords a O.NoCommonTrait old new = new ≡ old ++ 100 ∷ 105 ∷ 115 ∷ 106 ∷ 111 ∷ 105 ∷ 110 ∷ 116 ∷ 32 ∷ 116 ∷ 114 ∷ 97 ∷ 105 ∷ 116 ∷ 115 ∷ 10 ∷ []

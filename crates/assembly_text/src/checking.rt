@@ -13,12 +13,13 @@ ghost use Rattle.candidate_eval.specs.Knowability.Answers.{AreAnswerTypes, answe
 ghost use Rattle.candidate_eval.specs.Knowability.Calls.{HasNoParam};
 ghost use Rattle.assembly_notation.specs.Lines.{rounds_of_line};
 ghost use Rattle.assembly_text.specs.Asking.{declared_part};
-ghost use Rattle.assembly_text.specs.Checking.{AddsFailure, AddsFound, AddsOfAll, AddsOfImpl, AddsOfLine, AddsOfLines, AddsOfPair, AddsOfPairs, AddsTest, AddsWhereRefused, AddsWithOthers, HasError, IsDeclaredAlone, IsLength, SaysFindings, SaysFindingsOfLine, Stays, impl_text, origin_text, is_checked_alone, line_text, lint_text, or_ok, orphan_text, pair_text, place_text, special_text, stop_text, stopped_text};
+ghost use Rattle.assembly_text.specs.Checking.{AddsFailure, AddsFound, AddsOfAll, AddsOfImpl, AddsOfLine, AddsOfLines, AddsOfPair, AddsOfPairs, AddsTest, AddsWhereRefused, AddsWithOthers, HasError, IsDeclaredAlone, IsLength, SaysFindings, SaysFindingsOfLine, Stays, found_text, impl_text, origin_text, is_checked_alone, is_positive_impl, line_text, lint_text, or_ok, orphan_text, pair_text, place_text, special_text, stop_text, stopped_text};
 ghost use Rattle.assembly_text.specs.Specializing.{IsPrintableFound, specialized_by};
 ghost use Rattle.assembly_text.specs.Paired.{HasAllThatMayOverlap, HasImplsWithAliases, IsOpenHeader, IsPairedHere, IsPairedWithAll, is_asked_with, listed_of, one_if, trait_with_alias, variables_for};
 
 use crate::asking::{Asking, rounds};
 use crate::comparing::Found;
+use crate::printing::word_before_instance;
 use assembly_notation::faults::Fault;
 use assembly_notation::names::{NamedImpl, Origin};
 use assembly_notation::words::Words;
@@ -29,7 +30,7 @@ use ir_context::decl::make::Build;
 use ir_context::decl::unify_count::UnifyCount;
 use ir_folds::decl::parameters::has_arguments;
 use ir_folds::decl::subst::subst;
-use ir_trees::decl::contents::ImplId;
+use ir_trees::decl::contents::{ImplId, ImplPolarity};
 use ir_trees::decl::definition::CrateId;
 use ir_trees::ir::heads::Flag;
 use ir_trees::ir::kinds::{
@@ -38,6 +39,7 @@ use ir_trees::ir::kinds::{
 use ir_trees::ir::stop::Stop;
 use ir_trees::ir::trees::Trees;
 use ir_trees::ir::unify::RightSide;
+use overlaps::instance::CommonInstance;
 use overlaps::specializing::Specialization;
 use std::alloc::{AllocError, Global};
 use std::collections::BTreeMap;
@@ -436,7 +438,8 @@ impl<'a> Asking<'a> {
     }
 
     /// Adds what is an instance of the two impls, which of them specialises the other one, or that a call stopped, after which other pairs may
-    /// be asked still. A refused growth is handed on. Nothing is added where the impls are disjoint or their overlap is allowed.
+    /// be asked still. A refused growth is handed on. Nothing is added where the impls are disjoint or their overlap is allowed. An instance of two
+    /// positive impls is a lint where the headers' equation leaks a region.
     fn print_pair(
         &mut self,
         first: ImplId,
@@ -446,13 +449,14 @@ impl<'a> Asking<'a> {
         requires { IfOk found (IsPrintableFound self.old.scope.maker.trees) }
         ensures scope { self.new.scope ≡ self.old.scope }
         ensures given { self.new.given ≡ self.old.given }
-        ensures printed { let old = string_bytes self.old.answer in OnOk result (AddsFound self.old.scope.names.impls.items first second found old (string_bytes self.new.answer)) }
+        ensures printed { let old = string_bytes self.old.answer in OnOk result (AddsFound self.old.scope.maker self.old.scope.names.impls.items first second found old (string_bytes self.new.answer)) }
     {
         match found {
             Ok(Found::Nothing) => Ok(()),
             Ok(Found::Instance(instance)) => {
+                let words = words_before_found(&self.scope.maker, first, second, instance);
                 self.print_both(first, second)?;
-                self.print_instance(instance)
+                self.print_reference_after(words, instance)
             }
             Ok(Found::Specializes(special, general)) => self.print_special(special, general),
             Err(Stop::Memory) => Err(Stop::Memory),
@@ -552,6 +556,33 @@ pub(crate) fn rounds_alone<'a>(words: &mut Words<'a>) -> Result<u16, Fault<'a>>
     let count = rounds(words)?;
     words.end()?;
     Ok(count)
+}
+
+/// Whether the impl says that its trait holds.
+fn is_positive(cx: &Cx, of: ImplId) -> bool
+    ensures { result ≡ is_positive_impl cx.now of }
+{
+    match cx.impl_contents(of) {
+        Some(contents) => matches!(contents.polarity, ImplPolarity::Positive),
+        None => false,
+    }
+}
+
+/// What `check` says before a reference that is an instance of both impls. A region that leaks keeps two positive ones apart, as far as rustc
+/// tells regions apart, which has a lint of such impls; a negative one beside a positive one is an error there all the same.
+fn words_before_found(
+    cx: &Cx,
+    first: ImplId,
+    second: ImplId,
+    instance: CommonInstance,
+) -> &'static str
+    ensures { result.now ≡ found_text cx.now first second instance }
+{
+    if instance.leaks && is_positive(cx, first) && is_positive(cx, second) {
+        "lint leak "
+    } else {
+        word_before_instance(instance)
+    }
 }
 
 /// Whether the impl is one of the local crate, and of a trait that isn't: one of a local trait may always be written.

@@ -13,7 +13,7 @@ ghost use Rattle.assembly_text.specs.Normalizing.{AddsListAfter, AddsNormalWords
 ghost use Rattle.overlaps.specs.declared.overlap.WhereClause.{WhereClause};
 ghost use Rattle.assembly_text.specs.Negating.{AddsNegation, negated_text};
 ghost use Rattle.assembly_text.specs.Together.{apart_text};
-ghost use Rattle.assembly_text.specs.Overlapping.{AddsInstance, AddsOverlapWords, AddsReferenceAfter, IsPrintable, allowance_text, clause_text, instance_text, side_text, specializes_text};
+ghost use Rattle.assembly_text.specs.Overlapping.{AddsAfter, AddsInstance, AddsOverlapWords, AddsReferenceAfter, AddsSpelledAfter, IsPrintable, allowance_text, clause_text, instance_text, side_text, specializes_text};
 ghost use Rattle.assembly_text.specs.Solving.{AreValues};
 
 use crate::asking::Asking;
@@ -149,10 +149,25 @@ impl Asking<'_> {
         ensures printed { OnOk result (AddsInstance instance (string_bytes self.old.answer) (string_bytes self.new.answer)) }
         ensures spelled { OnOk result (AddsReferenceAfter instance (args_forest self.old.scope.maker.trees instance.trait_ref.args) (string_bytes self.old.answer) (string_bytes self.new.answer)) }
     {
+        self.print_reference_after(word_before_instance(instance), instance)
+    }
+
+    /// Adds these words, and the reference that is an instance of both.
+    pub(crate) fn print_reference_after(
+        &mut self,
+        words: &str,
+        instance: CommonInstance,
+    ) -> Result<(), Stop>
+        requires { IsArgs self.old.scope.maker.trees instance.trait_ref.args }
+        ensures given { self.new.given ≡ self.old.given }
+        ensures scope { self.new.scope ≡ self.old.scope }
+        ensures printed { OnOk result (AddsAfter words.now (string_bytes self.old.answer) (string_bytes self.new.answer)) }
+        ensures spelled { OnOk result (AddsSpelledAfter words.now (args_forest self.old.scope.maker.trees instance.trait_ref.args) (string_bytes self.old.answer) (string_bytes self.new.answer)) }
+    {
         let mut word = String::new(self.scope.alloc);
         self.scope
             .print_reference(instance.trait_ref, MAX_DEPTH, &mut word)?;
-        self.answer.push_str(word_before_instance(instance))?;
+        self.answer.push_str(words)?;
         self.answer.push_str(word.as_str())?;
         self.answer.push_str("\n")?;
         Ok(())
@@ -433,7 +448,7 @@ fn word_of_allowance(first: ImplId, reason: Allowance) -> &'static str
 }
 
 /// What stands before a reference that is an instance of both impls.
-fn word_before_instance(instance: CommonInstance) -> &'static str
+pub(crate) fn word_before_instance(instance: CommonInstance) -> &'static str
     ensures { result.now ≡ instance_text instance }
 {
     if instance.is_certain {

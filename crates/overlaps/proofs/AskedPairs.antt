@@ -38,20 +38,18 @@ may-weaker f (O.DisjointClause w) p = tt
 -- The same where nothing is certain since a region leaks.
 
 pub unless-asked : (P : Type 0) (leaks : Bool) (o : Overlap) → WhereMay P o → WhereMay P (unless_leaking leaks o)
-unless-asked P false o h = h
-unless-asked P true (O.May x) h = h
-unless-asked P true O.NoCommonTrait h = tt
-unless-asked P true (O.Allowed w) h = tt
-unless-asked P true O.DisjointHeaders h = tt
-unless-asked P true (O.DisjointClause w) h = tt
+unless-asked P leaks (O.May x) h = h
+unless-asked P leaks O.NoCommonTrait h = tt
+unless-asked P leaks (O.Allowed w) h = tt
+unless-asked P leaks O.DisjointHeaders h = tt
+unless-asked P leaks (O.DisjointClause w) h = tt
 
 pub unless-before : (P : WhereClause → Type 0) (leaks : Bool) (o : Overlap) → OfClause P o → OfClause P (unless_leaking leaks o)
-unless-before P false o h = h
-unless-before P true (O.May x) h = tt
-unless-before P true O.NoCommonTrait h = tt
-unless-before P true (O.Allowed w) h = tt
-unless-before P true O.DisjointHeaders h = tt
-unless-before P true (O.DisjointClause w) h = h
+unless-before P leaks (O.May x) h = tt
+unless-before P leaks O.NoCommonTrait h = tt
+unless-before P leaks (O.Allowed w) h = tt
+unless-before P leaks O.DisjointHeaders h = tt
+unless-before P leaks (O.DisjointClause w) h = h
 
 -- Asked where the headers are equal, in a probe that began then with nothing pending, and that has ended.
 pub pair-asked : (old began ran new : Evaluator) (count : ℕ) (p : Pair) (after : State) → IsLater old began → table_of began ≡ table_of old → AreOpen old.context.trees p

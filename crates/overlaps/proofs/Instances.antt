@@ -1,5 +1,6 @@
 -- Instances of the headers of two impls, from what is said where they are open to what is said of those that are declared.
-use Rattle.std.proofs.Common.{◌≡◌, ◌||◌, Bool, true, false, List, Some, refl, sym, ap, subst, ◌∙◌, ℕ}
+use Rattle.std.proofs.Common.{◌≡◌, ◌||◌, not, Bool, true, false, List, Some, refl, sym, ap, subst, ◌∙◌, ℕ}
+use Rattle.std.proofs.lemmas.Bool.{and_parts}
 use Rattle.ir_trees.specs.declared.decl.contents.ImplId.{ImplId}
 use Rattle.ir_trees.specs.declared.ir.kinds.TraitId.{TraitId}
 use Rattle.ir_trees.specs.declared.ir.kinds.TraitRef.{TraitRef}
@@ -25,7 +26,7 @@ use Rattle.overlaps.specs.Answered.{BothHold}
 use Rattle.overlaps.specs.Allowed.{allowance_of_ordered}
 use Rattle.overlaps.specs.Apart.{AreApart, AreOfOneTrait, AreOfOtherTraits, IfDeclared, OfDeclared, aside, opened}
 use Rattle.overlaps.specs.Found.{IsFoundAt, IsFoundOfPair, IsFoundWhereEqual, IsNotAllowed}
-use Rattle.overlaps.specs.Instance.{AreOneAt, BothImplsHold, CountAsEqual, HaveNoAlias, IsCertainUnless, IsCommonInstance, IsInstanceOfPair, IsInstanceWhereEqual, IsReferenceAt, equation_of, first_header, left_open, made_equal, second_header, unless_leaking}
+use Rattle.overlaps.specs.Instance.{AreOneAt, BothImplsHold, CountAsEqual, HaveNoAlias, TellsLeak, IsCommonInstance, IsInstanceOfPair, IsInstanceWhereEqual, IsReferenceAt, equation_of, first_header, left_open, made_equal, second_header, unless_leaking}
 use Rattle.overlaps.specs.Opening.{AreOpened}
 use Rattle.overlaps.specs.Refused.{AreOpen, headers_equated}
 use Rattle.overlaps.specs.declared.instance.CommonInstance.{CommonInstance}
@@ -68,14 +69,20 @@ instance-where-equal old mid between new p x b one two sure known hold plain cer
 
 -- Where an alias stands in a header, and decides nothing, nothing is made equal.
 pub instance-with-aliases : (old new : Evaluator) (p : Pair) (x : CommonInstance) → are_open (listing old) (state old) ≡ false → holds is_alias (args_forest old.context.trees p.first.header) || holds is_alias (args_forest old.context.trees p.second.header) ≡ true
-    → x.is_certain ≡ false → IsReferenceAt (state old) p.first.def_id (args_forest old.context.trees p.first.header) new.context.trees x.trait_ref → IsInstanceOfPair old new p x
-instance-with-aliases old new p x rigid alias unsure at = record {
+    → x.is_certain ≡ false → x.leaks ≡ false → IsReferenceAt (state old) p.first.def_id (args_forest old.context.trees p.first.header) new.context.trees x.trait_ref → IsInstanceOfPair old new p x
+instance-with-aliases old new p x rigid alias unsure untold at = record {
   after = state old;
   equal = left_open rigid alias refl;
   at = record { is = record { of_trait = at.of_trait; sort = at.sort; is = at.is }; hold = λ e. never e; no_alias = λ e. never e };
   no_leak = λ e. never e;
+  leak = λ e. absurd (let no : false ≡ true = sym untold ∙ e in cc);
+  leaks_not = λ plain e. absurd (let no : false ≡ true = sym (none-there plain) ∙ alias in cc);
 }
   where
+    none-there : HaveNoAlias (args_forest old.context.trees p.first.header) (args_forest old.context.trees p.second.header)
+        → holds is_alias (args_forest old.context.trees p.first.header) || holds is_alias (args_forest old.context.trees p.second.header) ≡ false
+    none-there plain = rw (plain.first, plain.second) refl
+
     never : {A : Type 0} → x.is_certain ≡ true → A
     never e = absurd (let no : false ≡ true = sym unsure ∙ e in cc)
 
@@ -95,30 +102,37 @@ instance-aside old began ran new p x after g known s f n h =
       no_alias = λ e. no-alias-before old.context began.context p g known (h.no_alias e);
     }
 
--- What is found is so where nothing is certain since a region leaks.
-pub unless-found : (old new : Evaluator) (p : Pair) (leaks : Bool) (o : Overlap) → IsFoundWhereEqual old new p o → IsFoundWhereEqual old new p (unless_leaking leaks o) × IsCertainUnless leaks (unless_leaking leaks o)
-unless-found old new p false O.NoCommonTrait h = (h, tt)
-unless-found old new p false (O.Allowed w) h = (h, tt)
-unless-found old new p false O.DisjointHeaders h = (h, tt)
-unless-found old new p false (O.DisjointClause w) h = (h, tt)
-unless-found old new p false (O.May x) h = (h, λ e. refl)
-unless-found old new p true O.NoCommonTrait h = (h, tt)
-unless-found old new p true (O.Allowed w) h = (h, tt)
-unless-found old new p true O.DisjointHeaders h = (h, tt)
-unless-found old new p true (O.DisjointClause w) h = (h, tt)
-unless-found old new p true (O.May x) h = (record { is = h.is; hold = λ e. absurd cc; no_alias = λ e. absurd cc }, λ e. absurd cc)
+-- What is found is so where it is told whether a region leaks.
+pub unless-found : (old new : Evaluator) (p : Pair) (leaks : Bool) (o : Overlap) → IsFoundWhereEqual old new p o → IsFoundWhereEqual old new p (unless_leaking leaks o) × TellsLeak leaks (unless_leaking leaks o)
+unless-found old new p leaks O.NoCommonTrait h = (h, tt)
+unless-found old new p leaks (O.Allowed w) h = (h, tt)
+unless-found old new p leaks O.DisjointHeaders h = (h, tt)
+unless-found old new p leaks (O.DisjointClause w) h = (h, tt)
+unless-found old new p leaks (O.May x) h = (
+  record {
+    is = record { of_trait = h.is.of_trait; sort = h.is.sort; is = h.is.is };
+    hold = λ e. h.hold (and_parts x.is_certain (not leaks) e).0;
+    no_alias = λ e. h.no_alias (and_parts x.is_certain (not leaks) e).0;
+  },
+  ((λ e. isnt leaks (and_parts x.is_certain (not leaks) e).1), refl),
+)
+  where
+    isnt : (b : Bool) → not b ≡ true → b ≡ false
+    isnt false e = refl
+    isnt true e = absurd cc
 
 -- What is found where the headers are equal, by what their equation left.
 pub found-of-pair : (old began ran new : Evaluator) (p : Pair) (after : State) → Grows old.context began.context → AreOpen old.context.trees p → headers_equated old p ≡ Some after → (leaks : Bool)
-    → (leaks ≡ false → Leaks (state old).newest_universe after → ⊥) → state began ≡ aside after → fixed new ≡ fixed ran → new.context ≡ ran.context → (o : Overlap)
-    → IsFoundWhereEqual began ran p o × IsCertainUnless leaks o → IsFoundOfPair old new p o
-found-of-pair old began ran new p after g known equal leaks kept s f n O.NoCommonTrait h = absurd h.0
-found-of-pair old began ran new p after g known equal leaks kept s f n (O.Allowed w) h = absurd h.0
-found-of-pair old began ran new p after g known equal leaks kept s f n O.DisjointHeaders h = absurd h.0
-found-of-pair old began ran new p after g known equal leaks kept s f n (O.DisjointClause w) h =
+    → (leaks ≡ true → Leaks (state old).newest_universe after) → (leaks ≡ false → Leaks (state old).newest_universe after → ⊥) → state began ≡ aside after → fixed new ≡ fixed ran
+    → new.context ≡ ran.context → (o : Overlap)
+    → IsFoundWhereEqual began ran p o × TellsLeak leaks o → IsFoundOfPair old new p o
+found-of-pair old began ran new p after g known equal leaks leak kept s f n O.NoCommonTrait h = absurd h.0
+found-of-pair old began ran new p after g known equal leaks leak kept s f n (O.Allowed w) h = absurd h.0
+found-of-pair old began ran new p after g known equal leaks leak kept s f n O.DisjointHeaders h = absurd h.0
+found-of-pair old began ran new p after g known equal leaks leak kept s f n (O.DisjointClause w) h =
     record { after = after; equal = equal; between = began; grows = g; is_aside = s; refused = pair-left began ran new p w f h.0 }
-found-of-pair old began ran new p after g known equal leaks kept s f n (O.May x) h =
-    record { after = after; equal = made_equal equal; at = instance-aside old began ran new p x after g known s f n h.0; no_leak = λ e. kept (h.1 e) }
+found-of-pair old began ran new p after g known equal leaks leak kept s f n (O.May x) h =
+    record { after = after; equal = made_equal equal; at = instance-aside old began ran new p x after g known s f n h.0; no_leak = λ e. kept (h.1.0 e); leak = λ e. leak (sym h.1.1 ∙ e); leaks_not = λ plain e. kept (sym h.1.1 ∙ e) }
 
 -- It isn't that what is declared allows an overlap.
 pub found-decides : (old new : Evaluator) (p : Pair) (o : Overlap) → IsFoundOfPair old new p o → IsNotAllowed o
@@ -170,6 +184,10 @@ module _ (old mid new : Evaluator) (a b : ImplId) (p : Pair) (grows : Grows old.
             second = all-declared c mid.context (sure_of new) (opened S o.i) (aside h.after) o.j p.second grows o.second (h.at.hold e).second;
           };
           no_leak = λ e l. h.no_leak e (subst (λ (u : ℕ). Leaks u h.after) (sym (ap (λ (U : State). U.newest_universe) s ∙ both-universe S o.i o.j)) l);
+          leak = λ e. subst (λ (u : ℕ). Leaks u h.after) (ap (λ (U : State). U.newest_universe) s ∙ both-universe S o.i o.j) (h.leak e);
+          leaks_not = λ plain e l.
+              h.leaks_not (subst (λ (q : Forest × Forest). HaveNoAlias q.0 q.1) (λ i. (sym f i, sym g i)) plain) e
+              (subst (λ (u : ℕ). Leaks u h.after) (sym (ap (λ (U : State). U.newest_universe) s ∙ both-universe S o.i o.j)) l);
         };
       }
 
@@ -203,6 +221,10 @@ instance-probed old began ran new T a b x cx f s g n h =
         is = subst (λ (q : Context × State × Context). IsReferenceAt (aside k.after) h.i.trait_ref.def_id (first_header q.0 q.1 h.i h.j) q.2.trees x.trait_ref) (λ i. (cx i, s i, z i)) k.is;
         certain = λ e. subst (λ (q : Context × GoalTable Via × State). BothImplsHold q.0 q.1 q.2 (aside k.after) h.i h.j) (λ i. (cx i, t i, s i)) (k.certain e);
         no_leak = λ e l. k.no_leak e (subst (λ (U : State). Leaks U.newest_universe k.after) (sym s) l);
+        leak = λ e. subst (λ (U : State). Leaks U.newest_universe k.after) s (k.leak e);
+        leaks_not = λ plain e l.
+            k.leaks_not (subst (λ (q : Context × State). HaveNoAlias (first_header q.0 q.1 h.i h.j) (second_header q.0 q.1 h.i h.j)) (λ i. (sym cx i, sym s i)) plain) e
+            (subst (λ (U : State). Leaks U.newest_universe k.after) (sym s) l);
       };
     }
 

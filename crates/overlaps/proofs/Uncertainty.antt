@@ -1,6 +1,6 @@
 -- Clauses that aren't certain, said of earlier evaluators and of declared impls.
 use Rattle.std.proofs.Common.{◌≡◌, ◌⊎◌, inl, inr, true, false, Bool, ℕ, List, Option, None, Some, slice_get, refl, sym, ap, subst, ◌∙◌}
-use Rattle.std.specs.Prelude.{IfSome, not}
+use Rattle.std.specs.Prelude.{◌&&◌, IfSome, not}
 use Rattle.ir_trees.specs.declared.decl.contents.ImplId.{ImplId}
 use Rattle.ir_trees.specs.declared.ir.kinds.Args.{Args}
 use Rattle.ir_trees.specs.declared.ir.kinds.Clause.{Clause}
@@ -87,14 +87,18 @@ uncertain-weaker f (O.Allowed w) p = tt
 uncertain-weaker f O.DisjointHeaders p = tt
 uncertain-weaker f (O.DisjointClause w) p = tt
 
+and-true : (b : Bool) → b && true ≡ b
+and-true true = refl
+and-true false = refl
+
 -- The same where nothing is certain since a region leaks.
 pub unless-uncertain : (P : Type 0) (leaks : Bool) (o : Overlap) → WhereUncertain P o → WhereUncertain ((leaks ≡ true) ⊎ P) (unless_leaking leaks o)
-unless-uncertain P false o h = uncertain-weaker (λ p. inr p) o h
+unless-uncertain P false (O.May x) h = λ e. inr (h (sym (and-true x.is_certain) ∙ e))
 unless-uncertain P true (O.May x) h = λ e. inl refl
-unless-uncertain P true O.NoCommonTrait h = tt
-unless-uncertain P true (O.Allowed w) h = tt
-unless-uncertain P true O.DisjointHeaders h = tt
-unless-uncertain P true (O.DisjointClause w) h = tt
+unless-uncertain P leaks O.NoCommonTrait h = tt
+unless-uncertain P leaks (O.Allowed w) h = tt
+unless-uncertain P leaks O.DisjointHeaders h = tt
+unless-uncertain P leaks (O.DisjointClause w) h = tt
 
 -- By a context that comes after it is so by an earlier one.
 

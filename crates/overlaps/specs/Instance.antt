@@ -1,5 +1,5 @@
 -- What is an instance of the headers of two impls.
-use Rattle.std.specs.Prelude.{◌≡◌, Bool, ◌||◌, true, false, Option, Some, List, []}
+use Rattle.std.specs.Prelude.{◌≡◌, Bool, ◌||◌, ◌&&◌, not, true, false, Option, Some, List, []}
 use Rattle.ir_trees.specs.declared.ir.kinds.TraitId.{TraitId}
 use Rattle.ir_trees.specs.declared.ir.kinds.TraitRef.{TraitRef}
 use Rattle.ir_trees.specs.Declarations.Context.{Context}
@@ -56,23 +56,25 @@ pub record IsInstanceWhereEqual (old new : Evaluator) (S : State) (p : Pair) (x 
   pub hold : x.is_certain ≡ true → BothHold old.context.trees (sure_of new) S p
   pub no_alias : x.is_certain ≡ true → HaveNoAlias (args_forest old.context.trees p.first.header) (args_forest old.context.trees p.second.header)
 
--- An answer, told whether the equation of two headers leaks a region: then no instance is certain.
+-- An answer, told whether the equation of two headers leaks a region: an instance says so, and isn't certain then.
 
 abbrev pub unless_leaking : Bool → Overlap → Overlap
-unless_leaking false o = o
-unless_leaking true (O.May x) = O.May (record { trait_ref = x.trait_ref; is_certain = false })
-unless_leaking true o = o
+unless_leaking leaks (O.May x) = O.May (record { trait_ref = x.trait_ref; is_certain = x.is_certain && not leaks; leaks = leaks })
+unless_leaking leaks o = o
 
-abbrev pub IsCertainUnless : Bool → Overlap → Type 0
-IsCertainUnless leaks (O.May x) = x.is_certain ≡ true → leaks ≡ false
-IsCertainUnless leaks _ = Unit {0}
+abbrev pub TellsLeak : Bool → Overlap → Type 0
+TellsLeak leaks (O.May x) = (x.is_certain ≡ true → leaks ≡ false) × (x.leaks ≡ leaks)
+TellsLeak leaks _ = Unit {0}
 
--- The same where the headers are made equal first, with nothing pending then; where it is certain, no region leaks that a binder of them binds.
+-- The same where the headers are made equal first, with nothing pending then. It says whether a region leaks that a binder of them binds, unless
+-- an alias stands in one; and where it is certain, none does.
 pub record IsInstanceOfPair (old new : Evaluator) (p : Pair) (x : CommonInstance) : Type 0 where
   pub after : State
   pub equal : CountAsEqual (are_open (listing old) (state old)) (headers_equated old p) (state old) (args_forest old.context.trees p.first.header) (args_forest old.context.trees p.second.header) after
   pub at : IsInstanceWhereEqual old new (aside after) p x
   pub no_leak : x.is_certain ≡ true → Leaks (state old).newest_universe after → ⊥
+  pub leak : x.leaks ≡ true → Leaks (state old).newest_universe after
+  pub leaks_not : HaveNoAlias (args_forest old.context.trees p.first.header) (args_forest old.context.trees p.second.header) → x.leaks ≡ false → Leaks (state old).newest_universe after → ⊥
 
 -- the headers of two impls at a state, with fresh variables for the parameters of both; and what their equation leaves
 
@@ -93,8 +95,8 @@ pub record BothImplsHold (c : Context) (T : GoalTable Via) (S after : State) (i 
   pub second : AllHold none c.trees T after (locals_of (opened S i) j) j.wheres
 
 -- At that state of an evaluator: both are impls of one trait, and the reference is the first header where their headers count as equal, and
--- are one. Where it is certain, both impls hold of it by the table that is left, with nothing pending, and no region leaks that a binder of the
--- headers binds.
+-- are one. Where it is certain, both impls hold of it by the table that is left, with nothing pending. It says whether a region leaks that a binder
+-- of the headers binds, unless an alias stands in one; and where it is certain, none does.
 pub record IsCommonInstance (old : Evaluator) (S : State) (new : Evaluator) (x : CommonInstance) (i j : Impl) : Type 0 where
   pub one_trait : i.trait_ref.def_id ≡ j.trait_ref.def_id
   pub after : State
@@ -103,3 +105,5 @@ pub record IsCommonInstance (old : Evaluator) (S : State) (new : Evaluator) (x :
   pub is : IsReferenceAt (aside after) i.trait_ref.def_id (first_header old.context S i j) new.context.trees x.trait_ref
   pub certain : x.is_certain ≡ true → BothImplsHold old.context (sure_of new) S (aside after) i j
   pub no_leak : x.is_certain ≡ true → Leaks S.newest_universe after → ⊥
+  pub leak : x.leaks ≡ true → Leaks S.newest_universe after
+  pub leaks_not : HaveNoAlias (first_header old.context S i j) (second_header old.context S i j) → x.leaks ≡ false → Leaks S.newest_universe after → ⊥

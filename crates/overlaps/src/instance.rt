@@ -1,6 +1,6 @@
 //! What is an instance of the headers of two impls.
 
-ghost use Rattle.std.specs.Prelude.{◌≡◌, IfErr, IfOk};
+ghost use Rattle.std.specs.Prelude.{◌≡◌, false, IfErr, IfOk};
 ghost use Rattle.ir_trees.specs.Syntax.Words.{IsArgs, args_forest};
 ghost use Rattle.candidate_rounds.specs.Evaluators.Known.{state, sure_of, table_of};
 ghost use Rattle.candidate_rounds.specs.Table.Running.{StaysBesideTable};
@@ -26,6 +26,8 @@ pub struct CommonInstance {
     /// of both is answered by a Yes that gives no variable a value, save those of what outlives what, which are assumed. It isn't certain
     /// where a region leaks in what such a Yes rests on, where a clause is of a projection, or its trait may lead to an auto trait with an impl for some types of a head alone.
     pub is_certain: bool,
+    /// Whether the headers' equation leaks a region that a binder of them binds. It isn't certain then.
+    pub leaks: bool,
 }
 
 /// The trait, the number of the arguments' list, and whether it is certain.
@@ -49,6 +51,7 @@ pub(crate) fn common_instance(
     ensures sure { sure_of rounds.new ≡ sure_of rounds.old }
     ensures is { IfOk result (λ x. IsReferenceAt (state rounds.old) first.now.def_id (args_forest rounds.old.context.trees first.now.header) rounds.new.context.trees x.trait_ref) }
     ensures certain { IfOk result (λ x. x.is_certain ≡ is_certain) }
+    ensures leaks { IfOk result (λ x. x.leaks ≡ false) }
     ensures cause { IfErr result (IsOverlapStop rounds.old rounds.new) }
 {
     let args = rounds.resolve_args_if_possible(first.header)?;
@@ -60,5 +63,6 @@ pub(crate) fn common_instance(
     Ok(CommonInstance {
         trait_ref,
         is_certain,
+        leaks: false,
     })
 }

@@ -11,7 +11,7 @@ ghost use Rattle.overlaps.specs.Answered.{BothHold};
 ghost use Rattle.overlaps.specs.Apart.{AreOfOneTrait, AreOfOtherTraits, OfDeclared, aside};
 ghost use Rattle.overlaps.specs.Asked.{BothStay, ClausesBeforeWereAsked, ClausesWereAsked, OfClause, PairWasAsked, PairWasAskedBefore, StayBefore, WereAsked, WereAskedBefore, WhereMay};
 ghost use Rattle.overlaps.specs.Found.{IsFoundAt, IsFoundOfPair, IsFoundWhereEqual, IsNotAllowed, IsOverlap};
-ghost use Rattle.overlaps.specs.Instance.{HaveNoAlias, IsCertainUnless, unless_leaking};
+ghost use Rattle.overlaps.specs.Instance.{HaveNoAlias, TellsLeak, unless_leaking};
 ghost use Rattle.overlaps.specs.Stopping.{IsOverlapStop};
 ghost use Rattle.overlaps.specs.Refused.{AreDecided, AreOpen, RefusesOfPair, StaysBesideKnown};
 ghost use Rattle.overlaps.specs.Uncertain.{ImplsAreUncertain, IsUncertain, IsUncertainWhereEqual, PairIsUncertain, WhereUncertain};
@@ -176,17 +176,15 @@ fn overlap_where_equal(
     Ok(Overlap::May(instance))
 }
 
-/// The answer, which isn't certain where the headers' equation leaks a region.
+/// The answer, told whether the headers' equation leaks a region: then it isn't certain.
 fn unless_leaking(answer: Overlap, leaks: bool) -> Overlap
     ensures { result ≡ unless_leaking leaks answer }
 {
-    if !leaks {
-        return answer;
-    }
     match answer {
-        Overlap::May(CommonInstance { trait_ref, .. }) => Overlap::May(CommonInstance {
-            trait_ref,
-            is_certain: false,
+        Overlap::May(instance) => Overlap::May(CommonInstance {
+            trait_ref: instance.trait_ref,
+            is_certain: instance.is_certain && !leaks,
+            leaks,
         }),
         answer => answer,
     }
@@ -207,7 +205,7 @@ fn overlap_unless_leaking(
     requires pending { (state rounds.old).pending ≡ [] }
     requires pair { AreOpen rounds.old.context.trees pair.now }
     ensures stays { StaysBesideTable rounds.old rounds.new }
-    ensures is { IfOk result (λ o. IsFoundWhereEqual rounds.old rounds.new pair.now o × IsCertainUnless leaks o) }
+    ensures is { IfOk result (λ o. IsFoundWhereEqual rounds.old rounds.new pair.now o × TellsLeak leaks o) }
     ensures asked { let r = rounds.old in IfOk result (WhereMay (BothStay r (state r) count pair.now (table_of r) (table_of rounds.new))) }
     ensures before { let r = rounds.old in IfOk result (OfClause (StayBefore r (state r) count pair.now (table_of r))) }
     ensures uncertain { let r = rounds.old in IfOk result (WhereUncertain ((leaks ≡ true) ⊎ IsUncertainWhereEqual r.context (sure_of rounds.new) (state r) pair.now)) }

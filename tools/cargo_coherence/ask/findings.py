@@ -8,7 +8,7 @@ from cargo_coherence.ask.answers import Speller, has_alias, is_alias, match, may
 from cargo_coherence.to_text.model import Impl, Term
 from cargo_coherence.to_text.regions import without_binder
 
-BOTH = re.compile(r"impl (\w+) \(line \d+\) and impl (\w+) \(line \d+\): (\w+) ?(.*)")
+BOTH = re.compile(r"impl (\w+) \(line \d+\) and impl (\w+) \(line \d+\): (lint )?(\w+) ?(.*)")
 ALONE = re.compile(r"impl (\w+) \(line \d+\): (lint )?orphan (\w+) ?(.*)")
 LINT = "uncovered_param_in_projection"  # rustc's name for a header that only its compatible check accepts
 STOPPED = re.compile(r"impl (\w+) \(line \d+\)(?: and impl (\w+) \(line \d+\))?: (?:orphan )?stop (\d+)")
@@ -35,7 +35,7 @@ class Finding:
 
 
 def read_findings(lines: List[str], impls: Dict[str, Impl]) -> List[Finding]:
-    """The findings that the program's lines tell of."""
+    """The findings that the program's lines tell of. A `lint leak` is a `maybe`: whether rustc warns of it is asked in `verdict/leaking.py`."""
     found = []
     for line in lines:
         stopped, both, alone = STOPPED.match(line), BOTH.match(line), ALONE.match(line)
@@ -43,8 +43,8 @@ def read_findings(lines: List[str], impls: Dict[str, Impl]) -> List[Finding]:
             found.append(Finding("stop", impls[stopped.group(1)], impls.get(stopped.group(2) or ""), stopped.group(3)))
         elif both:
             first, second = sorted((impls[both.group(1)], impls[both.group(2)]), key=order_of)
-            kind = both.group(3) if first.is_whole() and second.is_whole() else "maybe"
-            found.append(Finding(kind, first, second, both.group(4)))
+            is_known = first.is_whole() and second.is_whole() and not both.group(3)
+            found.append(Finding(both.group(4) if is_known else "maybe", first, second, both.group(5)))
         elif alone:
             kind = "lint" if alone.group(2) else "orphan"
             found.append(Finding(kind, impls[alone.group(1)], None, "%s %s" % (alone.group(3), alone.group(4))))

@@ -129,6 +129,7 @@ fn instance(
     Ok(Overlap::May(CommonInstance {
         trait_ref,
         is_certain,
+        leaks: false,
     }))
 }
 

@@ -54,7 +54,7 @@ returns-in_err-aside-clause-stays c =
 pub returns-then-are_undecided-clause-is : goal.returns-then-are_undecided-clause-is
 returns-then-are_undecided-clause-is c =
     instance-with-aliases c.args.rounds.now c.common_instance.new.rounds c.args.pair.now c.in_ok-instance.instance (c.are_undecided.ensures.rigid c.if-are_undecided.true) (c.are_undecided.ensures.some c.if-are_undecided.true) c.in_ok-instance.ensures.certain
-    c.in_ok-instance.ensures.is
+    c.in_ok-instance.ensures.leaks c.in_ok-instance.ensures.is
 
 pub returns-then-not-branch-clause-is : goal.returns-then-not-branch-clause-is
 returns-then-not-branch-clause-is c =
@@ -99,8 +99,8 @@ returns-clause-is c =
     (found-of-pair old began c.overlap_unless_leaking-answer.new.rounds c.end_probe.new.self p after
     (grows-trans _ _ _ c.mk_param_env.ensures.made.kept (grows-trans _ _ _ c.make_equal.ensures.kept.grows c.begin_probe.ensures.grows)) c.requires.pair
     (equated-as-made old mid c.in_ok-env.env p (Some after) c.mk_param_env.ensures.made.kept c.mk_param_env.ensures.rest c.in_ok-env.ensures.made.tree c.requires.pair (c.in_ok-make_equal.ensures.equal c.if-not-branch.false))
-    c.in_ok-leaks.leaks (λ e l. c.in_ok-leaks.ensures.no e (subst (λ (u : ℕ). Leaks u after) (sym c.newest_universe-above.ensures) l))
-    c.in_ok-aside.ensures.ok.0 c.end_probe.ensures.fixed c.end_probe.ensures.context)
+    c.in_ok-leaks.leaks (λ e. subst (λ (u : ℕ). Leaks u after) c.newest_universe-above.ensures (c.in_ok-leaks.ensures.yes e))
+    (λ e l. c.in_ok-leaks.ensures.no e (subst (λ (u : ℕ). Leaks u after) (sym c.newest_universe-above.ensures) l)) c.in_ok-aside.ensures.ok.0 c.end_probe.ensures.fixed c.end_probe.ensures.context)
     c.overlap_unless_leaking-answer.ensures.is
 
 pub returns-in_err-instance-clause-cause : goal.returns-in_err-instance-clause-cause

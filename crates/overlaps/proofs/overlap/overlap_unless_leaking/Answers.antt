@@ -2,7 +2,7 @@ use Rattle.std.proofs.Common.{◌≡◌, ◌⊎◌, true, sym, subst}
 use Rattle.candidate_rounds.specs.Evaluators.Known.{state, sure_of, table_of}
 use Rattle.overlaps.specs.Asked.{BothStay, OfClause, StayBefore, WhereMay}
 use Rattle.overlaps.specs.Found.{IsFoundWhereEqual}
-use Rattle.overlaps.specs.Instance.{IsCertainUnless}
+use Rattle.overlaps.specs.Instance.{TellsLeak}
 use Rattle.overlaps.specs.Stopping.{IsOverlapStop}
 use Rattle.overlaps.specs.Uncertain.{IsUncertainWhereEqual, WhereUncertain}
 use Rattle.overlaps.specs.declared.overlap.Overlap.{Overlap}
@@ -19,7 +19,7 @@ returns-in_err-answer-clause-cause c =
 pub returns-clause-is : goal.returns-clause-is
 returns-clause-is c =
     let new = c.overlap_where_equal.new.rounds in
-    subst (λ (o : Overlap). IsFoundWhereEqual c.args.rounds.now new c.args.pair.now o × IsCertainUnless c.args.leaks o) (sym c.unless_leaking.ensures)
+    subst (λ (o : Overlap). IsFoundWhereEqual c.args.rounds.now new c.args.pair.now o × TellsLeak c.args.leaks o) (sym c.unless_leaking.ensures)
     (unless-found c.args.rounds.now new c.args.pair.now c.args.leaks c.in_ok-answer.answer c.in_ok-answer.ensures.is)
 
 pub returns-clause-asked : goal.returns-clause-asked

@@ -3,7 +3,7 @@ use Rattle.std.specs.Prelude.{string_bytes}
 use Rattle.ir_trees.specs.Declarations.Context.{Grows}
 use Rattle.assembly_notation.specs.declared.names.NamedImpl.{NamedImpl}
 use Rattle.assembly_text.specs.Checking.{AddsFound}
-use Rattle.assembly_text.proofs.Finding.{adds-pair, adds-same, alone-again, stays-forgot}
+use Rattle.assembly_text.proofs.Finding.{adds-earlier, adds-pair, adds-same, alone-again, stays-forgot}
 use Rattle.assembly_text.proofs.asking.Asking.with_pair.Goals as goal
 
 pub returns-clause-declared : goal.returns-clause-declared
@@ -25,4 +25,5 @@ returns-clause-found c =
     let new = string_bytes c.print_pair-made.new.self.answer in
     adds-same _ c.print_pair-made.result (string_bytes first.answer) c.print_pair-made.new.self c.forget_nodes.new.self c.forget_nodes.ensures.answer
     (adds-pair first.scope.names first.given c.args.count first.scope.maker c.args.first c.args.second r c.print_pair-made.result (string_bytes first.answer) new asked.found asked.stopped
-    (subst (λ (x : List ℕ × List NamedImpl). OnOk c.print_pair-made.result (AddsFound x.1 c.args.first c.args.second r x.0 new)) (λ i. (string_bytes (asked.answer i), (asked.stays.names i).impls.items)) c.print_pair-made.ensures.printed))
+    (adds-earlier first.scope.maker c.compare-asking.result.0.scope.maker first.scope.names.impls.items c.args.first c.args.second r c.print_pair-made.result (string_bytes first.answer) new asked.stays.grows
+    (subst (λ (x : List ℕ × List NamedImpl). OnOk c.print_pair-made.result (AddsFound c.compare-asking.result.0.scope.maker x.1 c.args.first c.args.second r x.0 new)) (λ i. (string_bytes (asked.answer i), (asked.stays.names i).impls.items)) c.print_pair-made.ensures.printed)))
