@@ -49,7 +49,7 @@ def diamond(levels):
 
 def circle_of_all(count):
     wheres = "".join("iwhere x%d T%d #0\n" % (one, other) for one in range(count) for other in range(count))
-    return lines(count, "trait 1 T%(i)d 0\nimpl 1 x%(i)d 1 + T%(i)d #0\n") + wheres + "solve 65535 T0 u8\n"
+    return lines(count, "trait 1 T%(i)d 0\nimpl 1 x%(i)d 1 + T%(i)d #0\n") + wheres + "solve * T0 u8\n"
 
 
 def bounds_of_dyn(count, others):
@@ -58,7 +58,7 @@ def bounds_of_dyn(count, others):
 
 
 def chain(goals):
-    return "adt 1 V 1\ntrait 1 T 0\nimpl 1 x 1 + T V #0\niwhere x T #0\nimpl 1 y 0 + T u8\nsolve 65535 T %su8\n" % ("V " * goals)
+    return "adt 1 V 1\ntrait 1 T 0\nimpl 1 x 1 + T V #0\niwhere x T #0\nimpl 1 y 0 + T u8\nsolve * T %su8\n" % ("V " * goals)
 
 
 def traits(count, arguments):
@@ -68,17 +68,17 @@ def traits(count, arguments):
 
 def chain_with_variable(goals):
     impls = lines(goals, "impl 1 x%(i)d 2 + T%(i)d #0 #1\niwhere x%(i)d T%(next)d #0 #1\n")
-    return traits(goals, 1) + impls + "impl 1 y 1 + T%d #0 u8\nsolve 65535 T0 u8 $0\n" % goals
+    return traits(goals, 1) + impls + "impl 1 y 1 + T%d #0 u8\nsolve * T0 u8 $0\n" % goals
 
 
 def blanket_chain(goals):
     impls = lines(goals, "impl 1 x%(i)d 1 + T%(i)d #0\niwhere x%(i)d T%(next)d #0\n")
-    return traits(goals, 0) + impls + "impl 1 y 0 + T%d u8\nsolve 65535 T0 u8\n" % goals
+    return traits(goals, 0) + impls + "impl 1 y 0 + T%d u8\nsolve * T0 u8\n" % goals
 
 
 def grid(side):
     impls = "impl 1 x 2 + T S #0 S #1\niwhere x T #0 S #1\niwhere x T S #0 #1\nimpl 1 y 1 + T Z #0\nimpl 1 z 1 + T S #0 Z\n"
-    return "adt 1 S 1\nadt 1 Z 0\ntrait 1 T 1\n" + impls + "solve 65535 T %sZ %sZ\n" % ("S " * side, "S " * side)
+    return "adt 1 S 1\nadt 1 Z 0\ntrait 1 T 1\n" + impls + "solve * T %sZ %sZ\n" % ("S " * side, "S " * side)
 
 
 def counter(bits):
@@ -88,7 +88,7 @@ def counter(bits):
         high = ["#%d" % place for place in range(bits - ones - 1)]
         told += "impl 1 x%d %d + C %s\n" % (ones, len(high), " ".join(high + ["O"] + ["I"] * ones))
         told += "iwhere x%d C %s\n" % (ones, " ".join(high + ["I"] + ["O"] * ones))
-    return told + "impl 1 y 0 + C%s\nsolve 65535 C%s\n" % (" I" * bits, " O" * bits)
+    return told + "impl 1 y 0 + C%s\nsolve * C%s\n" % (" I" * bits, " O" * bits)
 
 
 def supertraits(count):
@@ -112,7 +112,7 @@ def clauses_walked(count):
 def two_chains(goals):
     impls = "".join(lines(goals, "impl 1 %s%%(i)d 1 + %s%%(i)d #0\niwhere %s%%(i)d %s%%(next)d #0\n" % ((one,) * 4)) for one in "AB")
     ends = lines(goals + 1, "trait 1 A%(i)d 0\ntrait 1 B%(i)d 0\n") + "trait 1 O 0\n"
-    return ends + impls + "impl 1 one 1 + O #0\niwhere one A0 #0\nimpl 1 two 1 + O #0\niwhere two B0 #0\nmode coherence\noverlap 65535 one two\n"
+    return ends + impls + "impl 1 one 1 + O #0\niwhere one A0 #0\nimpl 1 two 1 + O #0\niwhere two B0 #0\nmode coherence\noverlap * one two\n"
 
 
 def doubled(leaf, other, declared=""):
@@ -182,7 +182,7 @@ SHAPES = {
     "an impl with many where clauses": lambda n: "trait 1 T 0\ntrait 1 U 1\nimpl 1 x 1 + T #0\n"
     + lines(n, "iwhere x U #0 [%(i)d] u8\n")
     + "impl 1 y 2 + U #0 #1\nsolve 5 T u8\n",
-    "impls in a circle": lambda n: lines(n, "trait 1 T%(i)d 0\n") + lines(n, "impl 1 x%(i)d 1 + T%(i)d #0\niwhere x%(i)d T%(around)d #0\n") + "solve 65535 T0 u8\n",
+    "impls in a circle": lambda n: lines(n, "trait 1 T%(i)d 0\n") + lines(n, "impl 1 x%(i)d 1 + T%(i)d #0\niwhere x%(i)d T%(around)d #0\n") + "solve * T0 u8\n",
     "impls each of which asks for all": circle_of_all,
     "associated types with bounds of one another": lambda n: "trait 1 T 0\n"
     + lines(n, "assoc T O%(i)d\n")

@@ -9,8 +9,9 @@
 `assembly` is built with its proofs, and run on the stored run, on a text with every command, and on made texts. The growths
 of each run are counted, and the program is run again with each growth refused, and once more with each growth and all later
 ones refused. In the place of an answer a query may print `stop 1` then, and a line may end the run with
-`line N: stop 1`; all else must stay. A few growths of each run may be refused without a trace: quick rejection notes the pairs that it saw as far as
-there is memory, and goes into a pair once more where it has no note. So it is for the texts in `crates/texts/data`, which plain Rust of the sources answers: `tests/rows/tests/growths.rs`.
+`line N: stop 1`; all else must stay. Some growths of each run may be refused without a trace: quick rejection notes the pairs that it saw as far as
+there is memory, and goes into a pair once more where it has no note. Behind `*` it is noted as far as there is memory what goals look up, and all
+goals are computed where a note is missing. So it is for the texts in `crates/texts/data`, which plain Rust of the sources answers: `tests/rows/tests/growths.rs`.
 
 Rows are answered by plain Rust, too, of whose collections each growth can be refused (`bench/plain/kit.rs`). The run is the same but for `stop 1` as
 the answer of one row, which the program asks once more then, or for a row `asks` that counts fewer calls. Where its text or its answers have no
@@ -168,7 +169,7 @@ LONGEST = 600
 
 # How a run ended in which a refused growth changed nothing, and how many of these a text may have.
 UNNOTICED = "the same"
-MOST_UNNOTICED = 8
+MOST_UNNOTICED = 24
 
 # A program draws a seed for its tables in each run, which seldom moves a growth or adds a few. What holds of the growth behind
 # another one is looked for in so many runs.

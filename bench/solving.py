@@ -35,7 +35,7 @@ def of_impls(count, traits):
 def of_chain(count):
     """A goal that waits for one below it, and so on."""
     lines = ["trait 1 T 0", "adt 1 Vec 1", "impl 1 of_vec 1 + T Vec #0", "iwhere of_vec T #0", "impl 1 last 0 + T u8"]
-    return lines + ["solve 65535 T " + "Vec " * count + "u8"]
+    return lines + ["solve * T " + "Vec " * count + "u8"]
 
 
 def of_many(count):
@@ -57,7 +57,7 @@ def of_circle(count):
     lines = ["trait 1 T 0"] + ["adt 1 A%d 0" % each for each in range(count)]
     for each in range(count):
         lines += ["impl 1 of%d 0 + T A%d" % (each, each), "iwhere of%d T A%d" % (each, (each + 1) % count)]
-    return lines + ["solve 65535 T A0"]
+    return lines + ["solve * T A0"]
 
 
 def of_supers(count):
@@ -91,7 +91,7 @@ WORK = [
     ("goals in a chain", (100, 200), of_chain),
     ("goals in a chain with a variable at its end", (50, 100), of_open_chain),
     ("goals that one waits for", (500, 1_000), of_many),
-    ("goals in a circle, for 65,535 rounds", (20, 200), of_circle),
+    ("goals in a circle", (20, 200), of_circle),
     ("super traits in a row", (400, 800), of_supers),
     ("types that double, with a variable", (20, 40), of_doubled),
     ("types that double, equated with themselves", (20, 40), of_doubled_met),

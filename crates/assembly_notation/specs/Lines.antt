@@ -29,11 +29,3 @@ behind_first_word line = let rest = after_blanks line in drop (prefix_len is_no_
 -- the number that decimal digits write
 abbrev pub number_of_digits : List ℕ → ℕ
 number_of_digits word = digits_value 10 word
-
--- In how many rounds something is to be done by a word: 65,535 of them by `*`, and else as many as its digits say.
-abbrev pub rounds_named : List ℕ → ℕ
-rounds_named word = if pointwise nat_eq word (42 ∷ []) then 65535 else number_of_digits word
-
--- the same by the first word of what is left of a line
-abbrev pub rounds_of_line : List ℕ → ℕ
-rounds_of_line line = rounds_named (first_word line)

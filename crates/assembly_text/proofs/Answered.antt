@@ -34,6 +34,7 @@ use Rattle.assembly_text.specs.Asking.{AddsSomeKnown}
 use Rattle.assembly_text.specs.Overlapping.{IsOverlapAnyway, IsOverlapSolved, IsPrintable}
 use Rattle.assembly_text.specs.Printing.{known_text}
 use Rattle.assembly_text.specs.Solving.{ComesBefore, IsNewFor, IsOpenFor, IsSolvedBefore, fixed_for}
+use Rattle.candidate_rounds.specs.declared.rounds.effort.Effort.{Effort}
 
 pub on-answer : {A E : Type 0} {P Q : A → Type 0} (r : Result A E) → ((x : A) → P x → Q x) → IfOk r P → IfOk r Q
 on-answer (Ok x) f h = f x h
@@ -58,9 +59,9 @@ fixed-new b c g r ps os e n l o none t =
     λ i. record { world = world (e i); local_crate = (e i).local.0; limits = (e i).limits; listing = listed i; opaques = hidden i; table = read i; notes = noted i }
 
 -- What a goal came to in an evaluator that is new for what is given it comes to by that, also where the evaluator has gone on since.
-pub solved-before : (c : Context) (g : Given) (p : TraitPredicate) (count : ℕ) (r last : Evaluator) (d : Context) (v : Option Verdict) → IsNewFor c g r → d ≡ last.context
-    → ComesBefore r last g.clauses.items p count v → IsSolvedBefore c g p count d v
-solved-before c g p count r last d v made leaves h = (
+pub solved-before : (c : Context) (g : Given) (p : TraitPredicate) (effort : Effort) (r last : Evaluator) (d : Context) (v : Option Verdict) → IsNewFor c g r → d ≡ last.context
+    → ComesBefore r last g.clauses.items p effort v → IsSolvedBefore c g p effort d v
+solved-before c g p effort r last d v made leaves h = (
   h.0.context,
   record { first = r; left = h.0; context = made.context; fixed_is = made.fixed_is; state_is = made.state_is; comes = h.1; leaves = refl },
   subst (Grows h.0.context) (sym leaves) h.2,
@@ -83,19 +84,19 @@ pub answer-is : {A E : Type 0} {r : Result A E} {x y : A} → r ≡ Ok x → r �
 answer-is {x = x} {y = y} p q = let e : Ok x ≡ Ok y = sym p ∙ q in cc
 
 -- What is an instance of both impls is of the context that is left.
-pub overlap-prints : (c : Context) (g : Given) (a b : ImplId) (count : ℕ) (last : Context) (o : Overlap) → IsOverlapSolved c g a b count last o → IsPrintable last.trees o
-overlap-prints c g a b count last V.NoCommonTrait h = tt
-overlap-prints c g a b count last (V.Allowed w) h = tt
-overlap-prints c g a b count last V.DisjointHeaders h = tt
-overlap-prints c g a b count last (V.DisjointClause w) h = tt
-overlap-prints c g a b count last (V.May x) h = subst (λ (d : Context). IsArgs d.trees x.trait_ref.args) h.leaves h.is.holds.is.sort
+pub overlap-prints : (c : Context) (g : Given) (a b : ImplId) (effort : Effort) (last : Context) (o : Overlap) → IsOverlapSolved c g a b effort last o → IsPrintable last.trees o
+overlap-prints c g a b effort last V.NoCommonTrait h = tt
+overlap-prints c g a b effort last (V.Allowed w) h = tt
+overlap-prints c g a b effort last V.DisjointHeaders h = tt
+overlap-prints c g a b effort last (V.DisjointClause w) h = tt
+overlap-prints c g a b effort last (V.May x) h = subst (λ (d : Context). IsArgs d.trees x.trait_ref.args) h.leaves h.is.holds.is.sort
 
-pub anyway-prints : (c : Context) (g : Given) (a b : ImplId) (count : ℕ) (last : Context) (o : Overlap) → IsOverlapAnyway c g a b count last o → IsPrintable last.trees o
-anyway-prints c g a b count last V.NoCommonTrait h = tt
-anyway-prints c g a b count last (V.Allowed w) h = tt
-anyway-prints c g a b count last V.DisjointHeaders h = tt
-anyway-prints c g a b count last (V.DisjointClause w) h = tt
-anyway-prints c g a b count last (V.May x) h = subst (λ (d : Context). IsArgs d.trees x.trait_ref.args) h.leaves h.is.holds.is.sort
+pub anyway-prints : (c : Context) (g : Given) (a b : ImplId) (effort : Effort) (last : Context) (o : Overlap) → IsOverlapAnyway c g a b effort last o → IsPrintable last.trees o
+anyway-prints c g a b effort last V.NoCommonTrait h = tt
+anyway-prints c g a b effort last (V.Allowed w) h = tt
+anyway-prints c g a b effort last V.DisjointHeaders h = tt
+anyway-prints c g a b effort last (V.DisjointClause w) h = tt
+anyway-prints c g a b effort last (V.May x) h = subst (λ (d : Context). IsArgs d.trees x.trait_ref.args) h.leaves h.is.holds.is.sort
 
 -- What is known is printed.
 

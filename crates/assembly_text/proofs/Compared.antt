@@ -18,6 +18,7 @@ use Rattle.assembly_text.specs.declared.comparing.Found.{Found}
 use Rattle.assembly_text.specs.declared.comparing.Found.TheVariants as found
 use Rattle.assembly_text.specs.Together.{IsApart}
 use Rattle.assembly_text.specs.Specializing.{AreThose, HasNothing, IsAnswerOf, IsFoundOf, IsFoundSpecial, IsInstanceOr, IsInstanceUnless, IsInstanceUnlessApart, IsNegatedClause, IsNotOneBy, IsNotOtherBy, IsNotSpecial, IsOneBy, IsOtherBy, IsPairStop, IsSpecial, IsSpecialAlone, IsSpecialOfThem, NoneIfUsed, NoneSpecializesAlone, anyway, as_declared, by_answer, by_clauses, by_line, by_negation, each_special, is_declared_special, neither_special, one_unsaid, other_not_special, other_special, other_unsaid, overlap_stopped, special_unsaid, test_stopped_there}
+use Rattle.candidate_rounds.specs.declared.rounds.effort.Effort.{Effort}
 
 module _ (a b : Context) (w : Grows a b) (g : Given) where
   pub special-before : (s t : ImplId) → IsSpecial b g s t → IsSpecial a g s t
@@ -67,9 +68,9 @@ module _ (a b : Context) (w : Grows a b) (g : Given) where
   none-used-before : (i j : ImplId) → NoneIfUsed b g i j → NoneIfUsed a g i j
   none-used-before i j h e = none-before false i j (h e)
 
-  answer-before : (count : ℕ) (i j : ImplId) (o : Overlap) → IsAnswerOf b g count i j o → IsAnswerOf a g count i j o
-  answer-before count i j o (as_declared c last v h) = as_declared c last (grows-trans a b c w v) h
-  answer-before count i j o (anyway c last v h) = anyway c last (grows-trans a b c w v) h
+  answer-before : (effort : Effort) (i j : ImplId) (o : Overlap) → IsAnswerOf b g effort i j o → IsAnswerOf a g effort i j o
+  answer-before effort i j o (as_declared c last v h) = as_declared c last (grows-trans a b c w v) h
+  answer-before effort i j o (anyway c last v h) = anyway c last (grows-trans a b c w v) h
 
   negated-before : (i j : ImplId) (v : WhereClause) → IsNegatedClause b g i j v → IsNegatedClause a g i j v
   negated-before i j v h = record { asked = h.asked; context = h.context; last = h.last; grows = grows-trans a b h.context w h.grows; answered = h.answered }
@@ -77,19 +78,19 @@ module _ (a b : Context) (w : Grows a b) (g : Given) where
   apart-before : (i j : ImplId) → IsApart b g i j → IsApart a g i j
   apart-before i j h = record { context = h.context; last = h.last; grows = grows-trans a b h.context w h.grows; answered = h.answered }
 
-  nothing-before : (count : ℕ) (i j : ImplId) → HasNothing b g count i j → HasNothing a g count i j
-  nothing-before count i j (by_answer o h k) = by_answer o (answer-before count i j o h) k
-  nothing-before count i j (by_line s t h) = by_line s t (them-before true i j s t h)
-  nothing-before count i j (by_clauses x h k) = by_clauses x (answer-before count i j (O.May x) h) (apart-before i j k)
-  nothing-before count i j (by_negation x v h k) = by_negation x v (answer-before count i j (O.May x) h) (negated-before i j v k)
+  nothing-before : (effort : Effort) (i j : ImplId) → HasNothing b g effort i j → HasNothing a g effort i j
+  nothing-before effort i j (by_answer o h k) = by_answer o (answer-before effort i j o h) k
+  nothing-before effort i j (by_line s t h) = by_line s t (them-before true i j s t h)
+  nothing-before effort i j (by_clauses x h k) = by_clauses x (answer-before effort i j (O.May x) h) (apart-before i j k)
+  nothing-before effort i j (by_negation x v h k) = by_negation x v (answer-before effort i j (O.May x) h) (negated-before i j v k)
 
   found-special-before : (i j s t : ImplId) → IsFoundSpecial b g i j s t → IsFoundSpecial a g i j s t
   found-special-before i j s t h = record { feature = h.feature; special = them-before _ i j s t h.special }
 
-  pub found-before : (count : ℕ) (i j : ImplId) (x : Found) → IsFoundOf b g count i j x → IsFoundOf a g count i j x
-  found-before count i j found.Nothing h = nothing-before count i j h
-  found-before count i j (found.Instance x) (h, k) = (answer-before count i j (O.May x) h, none-used-before i j k)
-  found-before count i j (found.Specializes s t) h = found-special-before i j s t h
+  pub found-before : (effort : Effort) (i j : ImplId) (x : Found) → IsFoundOf b g effort i j x → IsFoundOf a g effort i j x
+  found-before effort i j found.Nothing h = nothing-before effort i j h
+  found-before effort i j (found.Instance x) (h, k) = (answer-before effort i j (O.May x) h, none-used-before i j k)
+  found-before effort i j (found.Specializes s t) h = found-special-before i j s t h
 
   pub stop-before : (s : Stop) → IsPairStop b g s → IsPairStop a g s
   stop-before s (overlap_stopped c last v h) = overlap_stopped c last (grows-trans a b c w v) h
@@ -109,14 +110,14 @@ module _ (a b : Context) (w : Grows a b) (g : Given) where
   unless-before i j x (found.Instance y) (e, k) = (e, none-used-before i j k)
   unless-before i j x (found.Specializes s t) k = found-special-before i j s t k
 
-  nothing-found : (count : ℕ) (i j : ImplId) (x : CommonInstance) → IsAnswerOf a g count i j (O.May x) → IsInstanceUnlessApart b g i j x found.Nothing → HasNothing a g count i j
-  nothing-found count i j x h (inl k) = by_clauses x h (apart-before i j k)
-  nothing-found count i j x h (inr k) = by_negation x k.0 h (negated-before i j k.0 k.1)
+  nothing-found : (effort : Effort) (i j : ImplId) (x : CommonInstance) → IsAnswerOf a g effort i j (O.May x) → IsInstanceUnlessApart b g i j x found.Nothing → HasNothing a g effort i j
+  nothing-found effort i j x h (inl k) = by_clauses x h (apart-before i j k)
+  nothing-found effort i j x h (inr k) = by_negation x k.0 h (negated-before i j k.0 k.1)
 
-  pub instance-found : (count : ℕ) (i j : ImplId) (x : CommonInstance) → IsAnswerOf a g count i j (O.May x) → (f : Found) → IsInstanceUnlessApart b g i j x f → IsFoundOf a g count i j f
-  instance-found count i j x h found.Nothing k = nothing-found count i j x h k
-  instance-found count i j x h (found.Instance y) (e, k) = (subst (λ (z : CommonInstance). IsAnswerOf a g count i j (O.May z)) (sym e) h, none-used-before i j k)
-  instance-found count i j x h (found.Specializes s t) k = found-special-before i j s t k
+  pub instance-found : (effort : Effort) (i j : ImplId) (x : CommonInstance) → IsAnswerOf a g effort i j (O.May x) → (f : Found) → IsInstanceUnlessApart b g i j x f → IsFoundOf a g effort i j f
+  instance-found effort i j x h found.Nothing k = nothing-found effort i j x h k
+  instance-found effort i j x h (found.Instance y) (e, k) = (subst (λ (z : CommonInstance). IsAnswerOf a g effort i j (O.May z)) (sym e) h, none-used-before i j k)
+  instance-found effort i j x h (found.Specializes s t) k = found-special-before i j s t k
 
   -- the same of what is found, if anything is
 

@@ -27,8 +27,9 @@ use Rattle.assembly_text.specs.Checking.{Adds, AddsFound, AddsOfAll, AddsOfImpl,
 use Rattle.overlaps.specs.declared.instance.CommonInstance.{CommonInstance}
 use Rattle.assembly_text.specs.Overlapping.{AddsAfter, instance_text}
 use Rattle.assembly_text.specs.Paired.{IsPairedHere}
-use Rattle.assembly_notation.specs.Lines.{rounds_of_line}
+use Rattle.assembly_text.specs.Efforts.{effort_of_line}
 use Rattle.assembly_notation.proofs.Giving.{take-extends}
+use Rattle.candidate_rounds.specs.declared.rounds.effort.Effort.{Effort}
 
 -- Declared contexts.
 
@@ -87,12 +88,12 @@ adds-earlier c d names a b (Ok (found.Instance i)) (Ok x) old new w e = subst (�
 adds-earlier c d names a b (Ok (found.Specializes s t)) (Ok x) old new w e = e
 adds-earlier c d names a b (Err s) (Ok x) old new w e = e
 
-module _ (names : Names) (g : Given) (count : ℕ) (a b : Context) (w : Grows a b) where
-  pair-before : (i j : ImplId) (text : List ℕ) → SaysOfPair names b g count i j text → SaysOfPair names a g count i j text
-  pair-before i j _ (quiet h) = quiet (found-before a b w g count i j found.Nothing h)
+module _ (names : Names) (g : Given) (effort : Effort) (a b : Context) (w : Grows a b) where
+  pair-before : (i j : ImplId) (text : List ℕ) → SaysOfPair names b g effort i j text → SaysOfPair names a g effort i j text
+  pair-before i j _ (quiet h) = quiet (found-before a b w g effort i j found.Nothing h)
   pair-before i j _ (overlap x word h) =
-      subst (λ (t : List ℕ). SaysOfPair names a g count i j (pair_text names.impls.items i j ++ (t ++ (word ++ 10 ∷ [])))) (words-before a b w x i j) (overlap x word (found-before a b w g count i j (found.Instance x) h))
-  pair-before i j _ (special s t h) = special s t (found-before a b w g count i j (found.Specializes s t) h)
+      subst (λ (t : List ℕ). SaysOfPair names a g effort i j (pair_text names.impls.items i j ++ (t ++ (word ++ 10 ∷ [])))) (words-before a b w x i j) (overlap x word (found-before a b w g effort i j (found.Instance x) h))
+  pair-before i j _ (special s t h) = special s t (found-before a b w g effort i j (found.Specializes s t) h)
   pair-before i j _ (overlap_stop s h m) = overlap_stop s (stop-before a b w g s h) m
 
   line-before : (i j : ImplId) (text : List ℕ) → SaysOfLine names b g i j text → SaysOfLine names a g i j text
@@ -109,11 +110,11 @@ module _ (names : Names) (g : Given) (count : ℕ) (a b : Context) (w : Grows a 
   lines-before i _ _ (and_line {n = n} {text = text} {line = line} j before is h) =
       and_line j (lines-before i n text before) (subst (λ (js : List ImplId). slice_get js n ≡ Some j) (declared-before i) is) (line-before i j line h)
 
-  pairs-before : (i : ImplId) (js : List ImplId) (n : ℕ) (text : List ℕ) → SaysOfPairs names b g count i js n text → SaysOfPairs names a g count i js n text
+  pairs-before : (i : ImplId) (js : List ImplId) (n : ℕ) (text : List ℕ) → SaysOfPairs names b g effort i js n text → SaysOfPairs names a g effort i js n text
   pairs-before i js _ _ no_pair = no_pair
   pairs-before i js _ _ (and_pair {n = n} {text = text} {line = line} j before is h) = and_pair j (pairs-before i js n text before) is (pair-before i j line h)
 
-  others-before : (number : ℕ) (i : ImplId) (text : List ℕ) → SaysWithOthers names b g count number i text → SaysWithOthers names a g count number i text
+  others-before : (number : ℕ) (i : ImplId) (text : List ℕ) → SaysWithOthers names b g effort number i text → SaysWithOthers names a g effort number i text
   others-before number i text h = record {
     others = h.others;
     paired = (h.paired.0, grows-trans a b h.paired.0 w h.paired.1, h.paired.2);
@@ -127,15 +128,15 @@ module _ (names : Names) (g : Given) (count : ℕ) (a b : Context) (w : Grows a 
   }
 
 -- What is said of two impls.
-pub adds-pair : (names : Names) (g : Given) (count : ℕ) (c : Context) (a b : ImplId) (r : Result Found Stop) (made : Result (Unit {0}) Stop) (old new : List ℕ) → IfOk r (IsFoundOf c g count a b)
-    → IfErr r (IsPairStop c g) → OnOk made (AddsFound c names.impls.items a b r old new) → OnOk made (Adds (SaysOfPair names c g count a b) old new)
-adds-pair names g count c a b r (Err s) old new is why e = tt
-adds-pair names g count c a b (Ok found.Nothing) (Ok x) old new is why e = adds-nothing _ old new (quiet is) e
-adds-pair names g count c a b (Ok (found.Instance i)) (Ok x) old new is why (word, e) =
-    adds-text (SaysOfPair names c g count a b) old _ new (overlap i word is) (e ∙ append_assoc old (pair_text names.impls.items a b) (found_text c a b i ++ (word ++ 10 ∷ [])))
-adds-pair names g count c a b (Ok (found.Specializes s t)) (Ok x) old new is why e = adds-text (SaysOfPair names c g count a b) old _ new (special s t is) e
-adds-pair names g count c a b (Err s) (Ok x) old new is why (m, e) =
-    adds-text (SaysOfPair names c g count a b) old _ new (overlap_stop s why m) (e ∙ append_assoc old (pair_text names.impls.items a b) (stop_text s))
+pub adds-pair : (names : Names) (g : Given) (effort : Effort) (c : Context) (a b : ImplId) (r : Result Found Stop) (made : Result (Unit {0}) Stop) (old new : List ℕ) → IfOk r (IsFoundOf c g effort a b)
+    → IfErr r (IsPairStop c g) → OnOk made (AddsFound c names.impls.items a b r old new) → OnOk made (Adds (SaysOfPair names c g effort a b) old new)
+adds-pair names g effort c a b r (Err s) old new is why e = tt
+adds-pair names g effort c a b (Ok found.Nothing) (Ok x) old new is why e = adds-nothing _ old new (quiet is) e
+adds-pair names g effort c a b (Ok (found.Instance i)) (Ok x) old new is why (word, e) =
+    adds-text (SaysOfPair names c g effort a b) old _ new (overlap i word is) (e ∙ append_assoc old (pair_text names.impls.items a b) (found_text c a b i ++ (word ++ 10 ∷ [])))
+adds-pair names g effort c a b (Ok (found.Specializes s t)) (Ok x) old new is why e = adds-text (SaysOfPair names c g effort a b) old _ new (special s t is) e
+adds-pair names g effort c a b (Err s) (Ok x) old new is why (m, e) =
+    adds-text (SaysOfPair names c g effort a b) old _ new (overlap_stop s why m) (e ∙ append_assoc old (pair_text names.impls.items a b) (stop_text s))
 
 -- What is said of a line.
 pub adds-line : (names : Names) (g : Given) (c d : Context) (a b : ImplId) (r : Result Specialization Stop) (made : Result (Unit {0}) Stop) (old new : List ℕ) → IfOk r (IsTested c g a b d)
@@ -173,8 +174,8 @@ adds-of-impl-then i a b c s e h =
     (λ text p. subst (λ (n : Names). SaysOfImpl n a.scope.maker i text) s.names (impl-before b.scope.names a.scope.maker b.scope.maker i text s.grows p)) h)
 
 -- no pair, and one more
-pub no-pairs : (count : ℕ) (i : ImplId) (js : List ImplId) (a : Asking) → AddsOfPairs count i js 0 a a
-no-pairs count i js a = adds-nothing (SaysOfPairs a.scope.names a.scope.maker a.given count i js 0) (string_bytes a.answer) (string_bytes a.answer) no_pair refl
+pub no-pairs : (effort : Effort) (i : ImplId) (js : List ImplId) (a : Asking) → AddsOfPairs effort i js 0 a a
+no-pairs effort i js a = adds-nothing (SaysOfPairs a.scope.names a.scope.maker a.given effort i js 0) (string_bytes a.answer) (string_bytes a.answer) no_pair refl
 
 -- what stands in a place of a list
 pub got-there : (xs : List ImplId) (n : ℕ) (d : ImplId) → n < length xs → slice_get xs n ≡ Some (slice_index_or xs n d)
@@ -182,15 +183,15 @@ got-there [] n d l = absurd (omega (arith, l))
 got-there (x ∷ xs) zero d l = refl
 got-there (x ∷ xs) (suc n) d l = let m : n < length xs = omega (arith, l) in got-there xs n d m
 
-pub pair-more : (count : ℕ) (i j : ImplId) (js : List ImplId) (n : ℕ) (a b c : Asking) → Stays a b → slice_get js n ≡ Some j → AddsOfPairs count i js n a b → AddsOfPair count i j b c
-    → AddsOfPairs count i js (n + 1) a c
-pair-more count i j js n a b c s is before h =
+pub pair-more : (effort : Effort) (i j : ImplId) (js : List ImplId) (n : ℕ) (a b c : Asking) → Stays a b → slice_get js n ≡ Some j → AddsOfPairs effort i js n a b → AddsOfPair effort i j b c
+    → AddsOfPairs effort i js (n + 1) a c
+pair-more effort i j js n a b c s is before h =
     let next : suc n ≡ n + 1 = omega (arith) in
     adds-both (string_bytes a.answer) (string_bytes b.answer) (string_bytes c.answer)
     (λ xs ys p q.
-    subst (λ k. SaysOfPairs a.scope.names a.scope.maker a.given count i js k (xs ++ ys)) next
+    subst (λ k. SaysOfPairs a.scope.names a.scope.maker a.given effort i js k (xs ++ ys)) next
     (and_pair j p is
-    (subst (λ (x : Names × Given). SaysOfPair x.0 a.scope.maker x.1 count i j ys) (λ k. (s.names k, s.given k)) (pair-before b.scope.names b.given count a.scope.maker b.scope.maker s.grows i j ys q))))
+    (subst (λ (x : Names × Given). SaysOfPair x.0 a.scope.maker x.1 effort i j ys) (λ k. (s.names k, s.given k)) (pair-before b.scope.names b.given effort a.scope.maker b.scope.maker s.grows i j ys q))))
     before h
 
 -- no line, and one more
@@ -209,12 +210,12 @@ line-more i j n a b c s is before h =
     before h
 
 -- an impl alone, its lines, and then with others
-pub with-others : (made : Result (Unit {0}) Stop) (count number : ℕ) (i : ImplId) (js : List ImplId) (a b c d : Asking) → Stays a b → Stays b c → AddsOfImpl i a b
-    → AddsOfLines i (length (specialized_by b.scope.maker i)) b c → IsPairedHere a.scope.maker number i js → OnOk made (AddsOfPairs count i js (length js) c d) → OnOk made (AddsWithOthers count number i a d)
-with-others (Ok x) count number i js a b c d s t alone (lines, of-lines, f) paired (pairs, of-pairs, h) =
+pub with-others : (made : Result (Unit {0}) Stop) (effort : Effort) (number : ℕ) (i : ImplId) (js : List ImplId) (a b c d : Asking) → Stays a b → Stays b c → AddsOfImpl i a b
+    → AddsOfLines i (length (specialized_by b.scope.maker i)) b c → IsPairedHere a.scope.maker number i js → OnOk made (AddsOfPairs effort i js (length js) c d) → OnOk made (AddsWithOthers effort number i a d)
+with-others (Ok x) effort number i js a b c d s t alone (lines, of-lines, f) paired (pairs, of-pairs, h) =
     let u = stays-then a b c s t in
     let here = subst (λ (x : Names × Given). SaysOfLines x.0 a.scope.maker x.1 i (length (specialized_by b.scope.maker i)) lines) (λ k. (s.names k, s.given k))
-    (lines-before b.scope.names b.given count a.scope.maker b.scope.maker s.grows i (length (specialized_by b.scope.maker i)) lines of-lines) in
+    (lines-before b.scope.names b.given effort a.scope.maker b.scope.maker s.grows i (length (specialized_by b.scope.maker i)) lines of-lines) in
     let both : Adds (λ ys. ys ≡ lines ++ pairs) (string_bytes b.answer) (string_bytes d.answer) = (lines ++ pairs, refl, h ∙ (ap (λ z. z ++ pairs) f ∙ append_assoc (string_bytes b.answer) lines pairs)) in
     adds-both (string_bytes a.answer) (string_bytes b.answer) (string_bytes d.answer)
     (λ xs ys p q. record {
@@ -225,39 +226,39 @@ with-others (Ok x) count number i js a b c d s t alone (lines, of-lines, f) pair
       lines = lines;
       of_lines =
           subst (λ (ks : List ImplId). SaysOfLines a.scope.names a.scope.maker a.given i (length ks) lines)
-          (declared-before b.scope.names b.given count a.scope.maker b.scope.maker s.grows i) here;
+          (declared-before b.scope.names b.given effort a.scope.maker b.scope.maker s.grows i) here;
       pairs = pairs;
       of_pairs =
-          subst (λ (x : Names × Given). SaysOfPairs x.0 a.scope.maker x.1 count i js (length js) pairs) (λ k. (u.names k, u.given k))
-          (pairs-before c.scope.names c.given count a.scope.maker c.scope.maker u.grows i js (length js) pairs of-pairs);
+          subst (λ (x : Names × Given). SaysOfPairs x.0 a.scope.maker x.1 effort i js (length js) pairs) (λ k. (u.names k, u.given k))
+          (pairs-before c.scope.names c.given effort a.scope.maker c.scope.maker u.grows i js (length js) pairs of-pairs);
       is = ap (λ zs. xs ++ zs) q;
     })
     alone both
-with-others (Err e) count number i js a b c d s t alone lines paired h = tt
+with-others (Err e) effort number i js a b c d s t alone lines paired h = tt
 
 -- no impl, and one more
-pub no-impls : (count number : ℕ) (a : Asking) → AddsOfImpls count number 0 a a
-no-impls count number a = adds-nothing (SaysOfImpls a.scope.names a.scope.maker a.given count number 0) (string_bytes a.answer) (string_bytes a.answer) no_impl refl
+pub no-impls : (effort : Effort) (number : ℕ) (a : Asking) → AddsOfImpls effort number 0 a a
+no-impls effort number a = adds-nothing (SaysOfImpls a.scope.names a.scope.maker a.given effort number 0) (string_bytes a.answer) (string_bytes a.answer) no_impl refl
 
-pub impl-more : (count number n : ℕ) (a b c : Asking) → Stays a b → AddsOfImpls count number n a b → AddsWithOthers count number (record { 0 = n }) b c → AddsOfImpls count number (n + 1) a c
-impl-more count number n a b c s before h =
+pub impl-more : (effort : Effort) (number n : ℕ) (a b c : Asking) → Stays a b → AddsOfImpls effort number n a b → AddsWithOthers effort number (record { 0 = n }) b c → AddsOfImpls effort number (n + 1) a c
+impl-more effort number n a b c s before h =
     let next : suc n ≡ n + 1 = omega (arith) in
     let i : ImplId = record { 0 = n } in
     adds-both (string_bytes a.answer) (string_bytes b.answer) (string_bytes c.answer)
     (λ xs ys p q.
-    subst (λ k. SaysOfImpls a.scope.names a.scope.maker a.given count number k (xs ++ ys)) next
+    subst (λ k. SaysOfImpls a.scope.names a.scope.maker a.given effort number k (xs ++ ys)) next
     (and_impl p
-    (subst (λ (x : Names × Given). SaysWithOthers x.0 a.scope.maker x.1 count number i ys) (λ k. (s.names k, s.given k)) (others-before b.scope.names b.given count a.scope.maker b.scope.maker s.grows number i ys q))))
+    (subst (λ (x : Names × Given). SaysWithOthers x.0 a.scope.maker x.1 effort number i ys) (λ k. (s.names k, s.given k)) (others-before b.scope.names b.given effort a.scope.maker b.scope.maker s.grows number i ys q))))
     before h
 
 -- all of it is said
-pub says-all : (count : ℕ) (a b c : Asking) (made : Result (Unit {0}) Stop) → string_bytes a.answer ≡ [] → AddsOfAll count a b → OnOk made (string_bytes c.answer ≡ or_ok (string_bytes b.answer))
-    → OnOk made (SaysFindings a.scope.names a.scope.maker a.given count (string_bytes c.answer))
-says-all count a b c (Ok x) nothing h e =
+pub says-all : (effort : Effort) (a b c : Asking) (made : Result (Unit {0}) Stop) → string_bytes a.answer ≡ [] → AddsOfAll effort a b → OnOk made (string_bytes c.answer ≡ or_ok (string_bytes b.answer))
+    → OnOk made (SaysFindings a.scope.names a.scope.maker a.given effort (string_bytes c.answer))
+says-all effort a b c (Ok x) nothing h e =
     let a = h.adds in
     record { number = h.number; are_all = h.are_all; text = a.0; are = a.1; is = e ∙ ap or_ok (a.2 ∙ ap (λ t. t ++ a.0) nothing) }
-says-all count a b c (Err s) nothing h e = tt
+says-all effort a b c (Err s) nothing h e = tt
 
-pub says-of-line : (made : Result (Unit {0}) Stop) (names : Names) (c : Context) (g : Given) (count : ℕ) (line said : List ℕ) → count ≡ rounds_of_line line → OnOk made (SaysFindings names c g count said)
+pub says-of-line : (made : Result (Unit {0}) Stop) (names : Names) (c : Context) (g : Given) (effort : Effort) (line said : List ℕ) → effort ≡ effort_of_line line → OnOk made (SaysFindings names c g effort said)
     → OnOk made (SaysFindingsOfLine line names c g said)
-says-of-line made names c g count line said e h = subst (λ n. OnOk made (SaysFindings names c g n said)) e h
+says-of-line made names c g effort line said e h = subst (λ n. OnOk made (SaysFindings names c g n said)) e h

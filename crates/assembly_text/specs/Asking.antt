@@ -10,7 +10,8 @@ use Rattle.candidate_eval.specs.declared.coherence.InCrate.{InCrate}
 use Rattle.candidate_eval.specs.Knowability.Answers.{knowledge_of}
 use Rattle.candidate_eval.specs.Knowability.Calls.{plain_check_of, plain_knowledge_about}
 use Rattle.assembly_notation.specs.declared.given.Given.{Given}
-use Rattle.assembly_notation.specs.Lines.{first_word, rounds_of_line}
+use Rattle.assembly_notation.specs.Lines.{first_word}
+use Rattle.assembly_text.specs.Efforts.{effort_of_line}
 use Rattle.assembly_text.specs.Explaining.{AddsCandidates}
 use Rattle.assembly_text.specs.Printing.{IsCheckText, known_text}
 use Rattle.assembly_text.specs.Normalizing.{AddsNormal}
@@ -20,13 +21,13 @@ use Rattle.assembly_text.specs.Solving.{AddsGoal, AddsGoalWithValues}
 abbrev pub declared_part : Context → Context
 declared_part c = record c { trees = take c.declared_nodes c.trees }
 
--- What some goal comes to over what is declared, under what is given, in the rounds that the line names: to which goal its words lead isn't said.
+-- What some goal comes to over what is declared, under what is given, by the effort that the line names: to which goal its words lead isn't said.
 pub record AddsSomeGoal (line : List ℕ) (first : Context) (g : Given) (last : Context) (old new : List ℕ) : Type 0 where
   pub context : Context
   pub read : Grows first context
   pub left : Grows context last
   pub predicate : TraitPredicate
-  pub adds : AddsGoal context g predicate (rounds_of_line line) last old new
+  pub adds : AddsGoal context g predicate (effort_of_line line) last old new
 
 -- The same with what variables stand for, or why it is so.
 pub record AddsSomeValues (line : List ℕ) (first : Context) (g : Given) (last : Context) (old new : List ℕ) : Type 0 where
@@ -34,7 +35,7 @@ pub record AddsSomeValues (line : List ℕ) (first : Context) (g : Given) (last 
   pub read : Grows first context
   pub left : Grows context last
   pub predicate : TraitPredicate
-  pub adds : AddsGoalWithValues context g predicate (rounds_of_line line) last old new
+  pub adds : AddsGoalWithValues context g predicate (effort_of_line line) last old new
 
 -- The same behind words for the goal's candidates.
 pub record AddsSomeCandidates (line : List ℕ) (first : Context) (g : Given) (last : Context) (old new : List ℕ) : Type 0 where
@@ -42,20 +43,20 @@ pub record AddsSomeCandidates (line : List ℕ) (first : Context) (g : Given) (l
   pub read : Grows first context
   pub left : Grows context last
   pub predicate : TraitPredicate
-  pub adds : AddsCandidates context g predicate (rounds_of_line line) last old new
+  pub adds : AddsCandidates context g predicate (effort_of_line line) last old new
 
 -- whether the first word of what is left of a line is `*`: as many rounds as it takes
 abbrev pub names_all : List ℕ → Bool
 names_all line = pointwise nat_eq (first_word line) (42 ∷ [])
 
--- What some projection comes to over what is declared, under what is given, in the rounds that the line names; behind `*` once the goal of its
+-- What some projection comes to over what is declared, under what is given, by the effort that the line names; behind `*` once the goal of its
 -- trait is final.
 pub record AddsSomeNormal (line : List ℕ) (first : Context) (g : Given) (last : Context) (old new : List ℕ) : Type 0 where
   pub context : Context
   pub read : Grows first context
   pub left : Grows context last
   pub alias : AliasTy
-  pub adds : AddsNormal context g alias (rounds_of_line line) (names_all line) last old new
+  pub adds : AddsNormal context g alias (effort_of_line line) (names_all line) last old new
 
 -- Whether all impls of some reference are known by what is declared, where no type is normalised.
 pub record AddsSomeKnown (first last : Context) (old new : List ℕ) : Type 0 where

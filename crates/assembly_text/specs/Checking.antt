@@ -29,11 +29,12 @@ use Rattle.assembly_notation.specs.declared.names.NamedImpl.{NamedImpl}
 use Rattle.assembly_notation.specs.declared.names.Origin.{Origin}
 use Rattle.assembly_notation.specs.declared.names.Origin.TheVariants as origin
 use Rattle.assembly_notation.specs.declared.names.Names.{Names}
-use Rattle.assembly_notation.specs.Lines.{rounds_of_line}
+use Rattle.assembly_text.specs.Efforts.{effort_of_line}
 use Rattle.assembly_text.specs.Overlapping.{AddsAfter, instance_text}
 use Rattle.assembly_text.specs.Paired.{IsOpenHeader, IsPairedHere}
 use Rattle.assembly_text.specs.Printing.{AddsAnswer, IsCheckText}
 use Rattle.assembly_text.specs.Specializing.{IsFoundOf, IsPairStop, IsTestStopped, IsTested, specialized_by}
+use Rattle.candidate_rounds.specs.declared.rounds.effort.Effort.{Effort}
 
 -- ` (prelude)`, or ` (line `, the number of the line, and `)`
 abbrev pub origin_text : Origin → List ℕ
@@ -169,12 +170,12 @@ pub data SaysOfImpl (names : Names) (first : Context) (a : ImplId) : List ℕ �
 
 -- What is said of two impls, over what is declared, under what is given, by what is found of them in so many rounds for each where clause: nothing;
 -- that there is an instance of both; that one of them specialises the other one; or that a call stopped, and by what.
-pub data SaysOfPair (names : Names) (first : Context) (g : Given) (count : ℕ) (a b : ImplId) : List ℕ → Type 0 where
-  quiet : IsFoundOf first g count a b found.Nothing → SaysOfPair names first g count a b []
-  overlap : (x : CommonInstance) (word : List ℕ) → IsFoundOf first g count a b (found.Instance x)
-      → SaysOfPair names first g count a b (pair_text names.impls.items a b ++ (found_text first a b x ++ (word ++ 10 ∷ [])))
-  special : (s t : ImplId) → IsFoundOf first g count a b (found.Specializes s t) → SaysOfPair names first g count a b (special_text names.impls.items s t)
-  overlap_stop : (s : Stop) → IsPairStop first g s → (s ≡ S.Memory → ⊥) → SaysOfPair names first g count a b (pair_text names.impls.items a b ++ stop_text s)
+pub data SaysOfPair (names : Names) (first : Context) (g : Given) (effort : Effort) (a b : ImplId) : List ℕ → Type 0 where
+  quiet : IsFoundOf first g effort a b found.Nothing → SaysOfPair names first g effort a b []
+  overlap : (x : CommonInstance) (word : List ℕ) → IsFoundOf first g effort a b (found.Instance x)
+      → SaysOfPair names first g effort a b (pair_text names.impls.items a b ++ (found_text first a b x ++ (word ++ 10 ∷ [])))
+  special : (s t : ImplId) → IsFoundOf first g effort a b (found.Specializes s t) → SaysOfPair names first g effort a b (special_text names.impls.items s t)
+  overlap_stop : (s : Stop) → IsPairStop first g s → (s ≡ S.Memory → ⊥) → SaysOfPair names first g effort a b (pair_text names.impls.items a b ++ stop_text s)
 
 -- What is said of a line by which the first impl specialises the second one: nothing, where it does; that it doesn't; or that the call stopped, and
 -- by what.
@@ -190,14 +191,14 @@ pub data SaysOfLines (names : Names) (first : Context) (g : Given) (a : ImplId) 
       → SaysOfLines names first g a (suc n) (text ++ line)
 
 -- That of the impl with each of so many of the others, one after the other.
-pub data SaysOfPairs (names : Names) (first : Context) (g : Given) (count : ℕ) (a : ImplId) (others : List ImplId) : ℕ → List ℕ → Type 0 where
-  no_pair : SaysOfPairs names first g count a others zero []
-  and_pair : {n : ℕ} {text line : List ℕ} (b : ImplId) → SaysOfPairs names first g count a others n text → slice_get others n ≡ Some b
-      → SaysOfPair names first g count a b line → SaysOfPairs names first g count a others (suc n) (text ++ line)
+pub data SaysOfPairs (names : Names) (first : Context) (g : Given) (effort : Effort) (a : ImplId) (others : List ImplId) : ℕ → List ℕ → Type 0 where
+  no_pair : SaysOfPairs names first g effort a others zero []
+  and_pair : {n : ℕ} {text line : List ℕ} (b : ImplId) → SaysOfPairs names first g effort a others n text → slice_get others n ≡ Some b
+      → SaysOfPair names first g effort a b line → SaysOfPairs names first g effort a others (suc n) (text ++ line)
 
 -- What is said of an impl alone, of the lines by which it specialises others, and then of it with each of the others with a number below that one that
 -- it is paired with.
-pub record SaysWithOthers (names : Names) (first : Context) (g : Given) (count number : ℕ) (a : ImplId) (said : List ℕ) : Type 0 where
+pub record SaysWithOthers (names : Names) (first : Context) (g : Given) (effort : Effort) (number : ℕ) (a : ImplId) (said : List ℕ) : Type 0 where
   pub others : List ImplId
   pub paired : IsPairedHere first number a others
   pub alone : List ℕ
@@ -205,14 +206,14 @@ pub record SaysWithOthers (names : Names) (first : Context) (g : Given) (count n
   pub lines : List ℕ
   pub of_lines : SaysOfLines names first g a (length (specialized_by first a)) lines
   pub pairs : List ℕ
-  pub of_pairs : SaysOfPairs names first g count a others (length others) pairs
+  pub of_pairs : SaysOfPairs names first g effort a others (length others) pairs
   pub is : said ≡ alone ++ (lines ++ pairs)
 
 -- That of so many of the impls with numbers below that one, in their order.
-pub data SaysOfImpls (names : Names) (first : Context) (g : Given) (count number : ℕ) : ℕ → List ℕ → Type 0 where
-  no_impl : SaysOfImpls names first g count number zero []
-  and_impl : {n : ℕ} {text line : List ℕ} → SaysOfImpls names first g count number n text → SaysWithOthers names first g count number (record { 0 = n }) line
-      → SaysOfImpls names first g count number (suc n) (text ++ line)
+pub data SaysOfImpls (names : Names) (first : Context) (g : Given) (effort : Effort) (number : ℕ) : ℕ → List ℕ → Type 0 where
+  no_impl : SaysOfImpls names first g effort number zero []
+  and_impl : {n : ℕ} {text line : List ℕ} → SaysOfImpls names first g effort number n text → SaysWithOthers names first g effort number (record { 0 = n }) line
+      → SaysOfImpls names first g effort number (suc n) (text ++ line)
 
 -- The names and what is given stay, and the context goes on.
 pub record Stays (old new : Asking) : Type 0 where
@@ -238,27 +239,27 @@ AddsOfLine a b old new = Adds (SaysOfLine old.scope.names old.scope.maker old.gi
 abbrev pub AddsOfLines : ImplId → ℕ → Asking → Asking → Type 0
 AddsOfLines a n old new = Adds (SaysOfLines old.scope.names old.scope.maker old.given a n) (string_bytes old.answer) (string_bytes new.answer)
 
-abbrev pub AddsOfPair : ℕ → ImplId → ImplId → Asking → Asking → Type 0
-AddsOfPair count a b old new = Adds (SaysOfPair old.scope.names old.scope.maker old.given count a b) (string_bytes old.answer) (string_bytes new.answer)
+abbrev pub AddsOfPair : Effort → ImplId → ImplId → Asking → Asking → Type 0
+AddsOfPair effort a b old new = Adds (SaysOfPair old.scope.names old.scope.maker old.given effort a b) (string_bytes old.answer) (string_bytes new.answer)
 
-abbrev pub AddsOfPairs : ℕ → ImplId → List ImplId → ℕ → Asking → Asking → Type 0
-AddsOfPairs count a others n old new = Adds (SaysOfPairs old.scope.names old.scope.maker old.given count a others n) (string_bytes old.answer) (string_bytes new.answer)
+abbrev pub AddsOfPairs : Effort → ImplId → List ImplId → ℕ → Asking → Asking → Type 0
+AddsOfPairs effort a others n old new = Adds (SaysOfPairs old.scope.names old.scope.maker old.given effort a others n) (string_bytes old.answer) (string_bytes new.answer)
 
-abbrev pub AddsWithOthers : ℕ → ℕ → ImplId → Asking → Asking → Type 0
-AddsWithOthers count number a old new = Adds (SaysWithOthers old.scope.names old.scope.maker old.given count number a) (string_bytes old.answer) (string_bytes new.answer)
+abbrev pub AddsWithOthers : Effort → ℕ → ImplId → Asking → Asking → Type 0
+AddsWithOthers effort number a old new = Adds (SaysWithOthers old.scope.names old.scope.maker old.given effort number a) (string_bytes old.answer) (string_bytes new.answer)
 
-abbrev pub AddsOfImpls : ℕ → ℕ → ℕ → Asking → Asking → Type 0
-AddsOfImpls count number n old new = Adds (SaysOfImpls old.scope.names old.scope.maker old.given count number n) (string_bytes old.answer) (string_bytes new.answer)
+abbrev pub AddsOfImpls : Effort → ℕ → ℕ → Asking → Asking → Type 0
+AddsOfImpls effort number n old new = Adds (SaysOfImpls old.scope.names old.scope.maker old.given effort number n) (string_bytes old.answer) (string_bytes new.answer)
 
 -- That is the length of a list, if a number of 32 bits can be.
 abbrev pub IsLength : ℕ → ℕ → Type 0
 IsLength len n = len < 4294967296 → n ≡ len
 
 -- each impl that has a name
-pub record AddsOfAll (count : ℕ) (old new : Asking) : Type 0 where
+pub record AddsOfAll (effort : Effort) (old new : Asking) : Type 0 where
   pub number : ℕ
   pub are_all : IsLength (length old.scope.names.impls.items) number
-  pub adds : AddsOfImpls count number number old new
+  pub adds : AddsOfImpls effort number number old new
 
 -- `ok` in the place of nothing
 abbrev pub or_ok : List ℕ → List ℕ
@@ -266,16 +267,16 @@ or_ok [] = 111 ∷ 107 ∷ 10 ∷ []
 or_ok text = text
 
 -- All that is said of each impl, or `ok`.
-pub record SaysFindings (names : Names) (first : Context) (g : Given) (count : ℕ) (said : List ℕ) : Type 0 where
+pub record SaysFindings (names : Names) (first : Context) (g : Given) (effort : Effort) (said : List ℕ) : Type 0 where
   pub number : ℕ
   pub are_all : IsLength (length names.impls.items) number
   pub text : List ℕ
-  pub are : SaysOfImpls names first g count number number text
+  pub are : SaysOfImpls names first g effort number number text
   pub is : said ≡ or_ok text
 
--- The same in the rounds that the line names.
+-- The same by the effort that the line names.
 abbrev pub SaysFindingsOfLine : List ℕ → Names → Context → Given → List ℕ → Type 0
-SaysFindingsOfLine line names first g said = SaysFindings names first g (rounds_of_line line) said
+SaysFindingsOfLine line names first g said = SaysFindings names first g (effort_of_line line) said
 
 -- The context has nothing but what is declared.
 abbrev pub IsDeclaredAlone : Context → Type 0

@@ -13,6 +13,7 @@ use Rattle.assembly_text.specs.declared.explaining.Reasons.TheVariants as R
 use Rattle.assembly_notation.specs.declared.given.Given.{Given}
 use Rattle.assembly_text.specs.Printing.{AddsWordsBefore}
 use Rattle.assembly_text.specs.Solving.{IsSolvedBefore}
+use Rattle.candidate_rounds.specs.declared.rounds.effort.Effort.{Effort}
 
 -- The numbers of a goal that was asked for are of the context.
 pub record IsAsked (ts : List Tree) (x : AskedGoal) : Type 0 where
@@ -25,7 +26,7 @@ AreReasons ts (R.Steps t) = Each (IsStep ts) t.steps.items
 AreReasons ts (R.Goals xs ns) = All (IsAsked ts) xs.items
 
 -- To a text are added some words for the candidates of a goal, and then what the goal comes to, in words.
-pub record AddsCandidates (c : Context) (g : Given) (p : TraitPredicate) (count : ℕ) (last : Context) (old new : List ℕ) : Type 0 where
+pub record AddsCandidates (c : Context) (g : Given) (p : TraitPredicate) (effort : Effort) (last : Context) (old new : List ℕ) : Type 0 where
   pub verdict : Option Verdict
-  pub solved : IsSolvedBefore c g p count last verdict
+  pub solved : IsSolvedBefore c g p effort last verdict
   pub added : AddsWordsBefore verdict old new

@@ -10,3 +10,4 @@ pub mod Negating
 pub mod Paired
 pub mod Printing
 pub mod Solving
+pub mod Efforts

@@ -8,10 +8,11 @@ use Rattle.overlaps.specs.declared.overlap.Overlap.{Overlap}
 use Rattle.overlaps.specs.declared.overlap.Overlap.TheVariants as O
 use Rattle.overlaps.specs.declared.overlap.WhereClause.{WhereClause}
 use Rattle.assembly_notation.specs.declared.given.Given.{Given}
-use Rattle.assembly_notation.specs.Lines.{rounds_of_line}
+use Rattle.assembly_text.specs.Efforts.{effort_of_line}
 use Rattle.assembly_text.specs.Overlapping.{AddsInstance, AddsOverlapWords, IsOverlapSolved, side_text}
 use Rattle.assembly_text.specs.Specializing.{IsNegationAnswered}
 use Rattle.assembly_text.specs.Together.{IsApartAnswered, apart_text}
+use Rattle.candidate_rounds.specs.declared.rounds.effort.Effort.{Effort}
 
 -- In words: `disjoint negative`, and the clause, which is of the `first` or of the `second` and has a number.
 abbrev pub negated_text : ImplId → WhereClause → List ℕ
@@ -45,12 +46,12 @@ IsDecided (O.May x) = ⊥
 IsDecided _ = Unit {0}
 
 -- To a text is added whether two impls overlap, in words: what keeps them apart alone, or why they may; or else what is said where they may overlap.
-pub data AddsOverlap (c : Context) (g : Given) (a b : ImplId) (count : ℕ) (last : Context) (old new : List ℕ) : Type 0 where
-  adds_answer : (o : Overlap) → IsOverlapSolved c g a b count last o → IsDecided o → AddsOverlapWords a o old new → AddsOverlap c g a b count last old new
-  adds_unless_apart : (x : CommonInstance) (mid : Context) → IsOverlapSolved c g a b count mid (O.May x) → AddsUnlessApart mid g a b x last old new → AddsOverlap c g a b count last old new
+pub data AddsOverlap (c : Context) (g : Given) (a b : ImplId) (effort : Effort) (last : Context) (old new : List ℕ) : Type 0 where
+  adds_answer : (o : Overlap) → IsOverlapSolved c g a b effort last o → IsDecided o → AddsOverlapWords a o old new → AddsOverlap c g a b effort last old new
+  adds_unless_apart : (x : CommonInstance) (mid : Context) → IsOverlapSolved c g a b effort mid (O.May x) → AddsUnlessApart mid g a b x last old new → AddsOverlap c g a b effort last old new
 
--- The same of some two, in the rounds that the line names: which two it names isn't said.
+-- The same of some two, by the effort that the line names: which two it names isn't said.
 pub record AddsSomeOverlap (line : List ℕ) (c : Context) (g : Given) (last : Context) (old new : List ℕ) : Type 0 where
   pub first : ImplId
   pub second : ImplId
-  pub adds : AddsOverlap c g first second (rounds_of_line line) last old new
+  pub adds : AddsOverlap c g first second (effort_of_line line) last old new

@@ -24,13 +24,14 @@ use Rattle.candidate_rounds.specs.Table.Normalizing.{goal_of_trait, trait_predic
 use Rattle.candidate_rounds.specs.Table.Running.{StaysBesideTable, computing}
 use Rattle.rounds_judge.specs.Table.GoalTable.{may_be_asked, verdict_in}
 use Rattle.rounds_judge.specs.Table.Keys.{Key, key_at}
-use Rattle.rounds_judge.specs.Table.Rounds.{IsRun}
+use Rattle.candidate_rounds.specs.Table.Efforts.{Runs}
 use Rattle.rounds_judge.specs.Table.Verdicts as verdict
 use Rattle.assembly_notation.specs.declared.given.Given.{Given}
 use Rattle.assembly_notation.specs.Spelling.{AddsEach}
 use Rattle.assembly_text.specs.declared.solving.Normal.{Normal}
 use Rattle.assembly_text.specs.declared.solving.Normal.TheVariants.{Answered, Open, Refused, Unasked}
 use Rattle.assembly_text.specs.Solving.{IsReady, fixed_for, nothing_known}
+use Rattle.candidate_rounds.specs.declared.rounds.effort.Effort.{Effort}
 
 -- A projection as a text gives it: with the arguments that it and its trait take, in which no parameter stands.
 pub record IsReadProjection (c : Context) (a : AliasTy) : Type 0 where
@@ -54,46 +55,46 @@ abbrev pub trait_key : Evaluator → ParamEnv → AliasTy → Key
 trait_key s env a = key_at (state s) (goal_of_trait s.context env a)
 
 -- What the evaluator answers of a projection in that many rounds at most, and the evaluator that is left.
-pub data IsNormalOf (s : Evaluator) (env : ParamEnv) (a : AliasTy) (count : ℕ) (last : Evaluator) : Normal → Type 0 where
-  is_normal : (o : Option CanonicalResponse) → IsNormalized last.context.trees s env a count (table_of last) (Ok o) → IsNormalOf s env a count last (normal_by o)
+pub data IsNormalOf (s : Evaluator) (env : ParamEnv) (a : AliasTy) (effort : Effort) (last : Evaluator) : Normal → Type 0 where
+  is_normal : (o : Option CanonicalResponse) → IsNormalized last.context.trees s env a effort (table_of last) (Ok o) → IsNormalOf s env a effort last (normal_by o)
 
 -- The same where only an answer counts that no further round takes back: the goal of the projection's trait is run first. While that is a Maybe, the
 -- projection is open; where it is refused, so is the projection; where it is a yes, the projection is normalised.
-pub data IsSettledNormalOf (s : Evaluator) (env : ParamEnv) (a : AliasTy) (count : ℕ) (last : Evaluator) : Normal → Type 0 where
-  is_open : (x : Response) (way : Option Via) → IsRun (computing s) (trait_key s env a) count (table_of s) (table_of last)
-      → verdict_in (table_of last) (trait_key s env a) ≡ Some (verdict.Maybe x way) → IsSettledNormalOf s env a count last Open
-  is_refused : IsRun (computing s) (trait_key s env a) count (table_of s) (table_of last) → verdict_in (table_of last) (trait_key s env a) ≡ Some verdict.Refused
-      → IsSettledNormalOf s env a count last Refused
-  is_settled : (t : Evaluator) {n : Normal} (x : Response) (way : Option Via) → StaysBesideTable s t → IsRun (computing s) (trait_key s env a) count (table_of s) (table_of t)
-      → verdict_in (table_of t) (trait_key s env a) ≡ Some (verdict.Yes x way) → IsNormalOf t env a count last n → IsSettledNormalOf s env a count last n
+pub data IsSettledNormalOf (s : Evaluator) (env : ParamEnv) (a : AliasTy) (effort : Effort) (last : Evaluator) : Normal → Type 0 where
+  is_open : (x : Response) (way : Option Via) → Runs (computing s) (trait_key s env a) effort (table_of s) (table_of last)
+      → verdict_in (table_of last) (trait_key s env a) ≡ Some (verdict.Maybe x way) → IsSettledNormalOf s env a effort last Open
+  is_refused : Runs (computing s) (trait_key s env a) effort (table_of s) (table_of last) → verdict_in (table_of last) (trait_key s env a) ≡ Some verdict.Refused
+      → IsSettledNormalOf s env a effort last Refused
+  is_settled : (t : Evaluator) {n : Normal} (x : Response) (way : Option Via) → StaysBesideTable s t → Runs (computing s) (trait_key s env a) effort (table_of s) (table_of t)
+      → verdict_in (table_of t) (trait_key s env a) ≡ Some (verdict.Yes x way) → IsNormalOf t env a effort last n → IsSettledNormalOf s env a effort last n
 
 -- Which of the two is asked for.
-abbrev pub IsNormalBy : Bool → Evaluator → ParamEnv → AliasTy → ℕ → Evaluator → Normal → Type 0
+abbrev pub IsNormalBy : Bool → Evaluator → ParamEnv → AliasTy → Effort → Evaluator → Normal → Type 0
 IsNormalBy false = IsNormalOf
 IsNormalBy true = IsSettledNormalOf
 
 -- What a projection comes to in an evaluator, and the evaluator that is left: nothing, where the goal of its trait may not be asked; else what
 -- normalising it answers, in that many rounds at most, or once the goal of its trait is final. The goal's key is looked at first, which changes
 -- nothing but nodes.
-pub data NormalComes (r : Evaluator) (env : ParamEnv) (a : AliasTy) (count : ℕ) (waits : Bool) (last : Evaluator) : Normal → Type 0 where
-  not_asked : (s : Evaluator) → StaysBesideTable r s → may_be_asked (trait_key s env a) ≡ false → NormalComes r env a count waits last Unasked
-  normalized : (s : Evaluator) {n : Normal} → StaysBesideTable r s → table_of s ≡ table_of r → IsNormalBy waits s env a count last n → NormalComes r env a count waits last n
+pub data NormalComes (r : Evaluator) (env : ParamEnv) (a : AliasTy) (effort : Effort) (waits : Bool) (last : Evaluator) : Normal → Type 0 where
+  not_asked : (s : Evaluator) → StaysBesideTable r s → may_be_asked (trait_key s env a) ≡ false → NormalComes r env a effort waits last Unasked
+  normalized : (s : Evaluator) {n : Normal} → StaysBesideTable r s → table_of s ≡ table_of r → IsNormalBy waits s env a effort last n → NormalComes r env a effort waits last n
 
 -- What it comes to under clauses; nothing, where a bound variable escapes from it.
-pub data NormalComesUnder (first last : Evaluator) (cs : List Clause) (a : AliasTy) (count : ℕ) (waits : Bool) : Normal → Type 0 where
-  open_projection : escapes 0 (args_forest first.context.trees a.args) ≡ true → NormalComesUnder first last cs a count waits Unasked
-  asked : (r : Evaluator) (env : ParamEnv) {n : Normal} → IsReady first cs (trait_predicate first.context a) r env → NormalComes r env a count waits last n
-      → NormalComesUnder first last cs a count waits n
+pub data NormalComesUnder (first last : Evaluator) (cs : List Clause) (a : AliasTy) (effort : Effort) (waits : Bool) : Normal → Type 0 where
+  open_projection : escapes 0 (args_forest first.context.trees a.args) ≡ true → NormalComesUnder first last cs a effort waits Unasked
+  asked : (r : Evaluator) (env : ParamEnv) {n : Normal} → IsReady first cs (trait_predicate first.context a) r env → NormalComes r env a effort waits last n
+      → NormalComesUnder first last cs a effort waits n
 
 -- What a projection of a text comes to under what is given: under the given clauses in a new evaluator, which knows nothing yet and is in the
 -- given mode.
-pub record IsNormalSolved (c : Context) (g : Given) (a : AliasTy) (count : ℕ) (waits : Bool) (last : Context) (n : Normal) : Type 0 where
+pub record IsNormalSolved (c : Context) (g : Given) (a : AliasTy) (effort : Effort) (waits : Bool) (last : Context) (n : Normal) : Type 0 where
   pub first : Evaluator
   pub left : Evaluator
   pub context : first.context ≡ c
   pub fixed_is : fixed first ≡ fixed_for c g
   pub state_is : state first ≡ nothing_known g.mode
-  pub comes : NormalComesUnder first left g.clauses.items a count waits n
+  pub comes : NormalComesUnder first left g.clauses.items a effort waits n
   pub leaves : left.context ≡ last
 
 -- In words: `refused`; `type` and the type, which has some word, where the response is sure; else `maybe`.
@@ -122,9 +123,9 @@ AddsNormalWords Refused old new = new ≡ old ++ 114 ∷ 101 ∷ 102 ∷ 117 ∷
 AddsNormalWords (Answered r) old new = AddsByCertainty r.certainty old new
 
 -- To a text is added what the projection comes to, in words. Printing makes nodes, too.
-pub record AddsNormal (c : Context) (g : Given) (a : AliasTy) (count : ℕ) (waits : Bool) (last : Context) (old new : List ℕ) : Type 0 where
+pub record AddsNormal (c : Context) (g : Given) (a : AliasTy) (effort : Effort) (waits : Bool) (last : Context) (old new : List ℕ) : Type 0 where
   pub normal : Normal
   pub left : Context
-  pub solved : IsNormalSolved c g a count waits left normal
+  pub solved : IsNormalSolved c g a effort waits left normal
   pub goes_on : Grows left last
   pub added : AddsNormalWords normal old new

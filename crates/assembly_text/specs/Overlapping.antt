@@ -23,12 +23,13 @@ use Rattle.overlaps.specs.Found.{IsNotAllowed, IsOverlap}
 use Rattle.overlaps.specs.Stopping.{IsOverlapStop}
 use Rattle.assembly_notation.specs.declared.given.Given.{Given}
 use Rattle.assembly_text.specs.Solving.{IsOpenFor, fixed_openly, nothing_known}
+use Rattle.candidate_rounds.specs.declared.rounds.effort.Effort.{Effort}
 
 -- What a new evaluator, which knows nothing yet and is in the given mode, and for which an alias that isn't listed may be any type in coherence,
 -- says of two impls, and the evaluator that is left: all stays but its
 -- table, and what keeps the two apart is there, or what is an instance of both; and it says that their overlap is allowed wherever it is. Where
 -- they may overlap each where clause was run in so many rounds or decides nothing; and where one keeps them apart, so was each before it.
-pub record IsOverlapSolved (c : Context) (g : Given) (a b : ImplId) (count : ℕ) (last : Context) (o : Overlap) : Type 0 where
+pub record IsOverlapSolved (c : Context) (g : Given) (a b : ImplId) (effort : Effort) (last : Context) (o : Overlap) : Type 0 where
   pub first : Evaluator
   pub left : Evaluator
   pub context : first.context ≡ c
@@ -37,20 +38,20 @@ pub record IsOverlapSolved (c : Context) (g : Given) (a b : ImplId) (count : ℕ
   pub stays : StaysBesideTable first left
   pub is : IsOverlap first left a b o
   pub allowed : (w : Allowance) → allowance_of first.context a b ≡ Some w → o ≡ O.Allowed w
-  pub asked : WhereMay (ClausesWereAsked first count (table_of left) a b) o
-  pub before : OfClause (ClausesBeforeWereAsked first count a b) o
+  pub asked : WhereMay (ClausesWereAsked first effort (table_of left) a b) o
+  pub before : OfClause (ClausesBeforeWereAsked first effort a b) o
   pub leaves : left.context ≡ last
 
 -- The same whatever the two declare.
-pub record IsOverlapAnyway (c : Context) (g : Given) (a b : ImplId) (count : ℕ) (last : Context) (o : Overlap) : Type 0 where
+pub record IsOverlapAnyway (c : Context) (g : Given) (a b : ImplId) (effort : Effort) (last : Context) (o : Overlap) : Type 0 where
   pub first : Evaluator
   pub left : Evaluator
   pub new : IsOpenFor c g first
   pub stays : StaysBesideTable first left
   pub is : IsOverlap first left a b o
   pub decided : IsNotAllowed o
-  pub asked : WhereMay (ClausesWereAsked first count (table_of left) a b) o
-  pub before : OfClause (ClausesBeforeWereAsked first count a b) o
+  pub asked : WhereMay (ClausesWereAsked first effort (table_of left) a b) o
+  pub before : OfClause (ClausesBeforeWereAsked first effort a b) o
   pub leaves : left.context ≡ last
 
 -- Why it stops to ask such an evaluator: the call stopped, and accounts for it; or memory was refused before that.

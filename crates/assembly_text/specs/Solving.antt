@@ -24,9 +24,10 @@ use Rattle.candidate_rounds.specs.Table.Running.{StaysBesideTable, computing}
 use Rattle.rounds_judge.specs.Aliases.WellListed.{well_listed}
 use Rattle.rounds_judge.specs.Table.GoalTable.{may_be_asked, verdict_in}
 use Rattle.rounds_judge.specs.Table.Keys.{Key, fresh_state, key_at}
-use Rattle.rounds_judge.specs.Table.Rounds.{IsRun}
+use Rattle.candidate_rounds.specs.Table.Efforts.{Runs}
 use Rattle.assembly_notation.specs.declared.given.Given.{Given}
 use Rattle.assembly_text.specs.Printing.{AddsVerdict, verdict_text}
+use Rattle.candidate_rounds.specs.declared.rounds.effort.Effort.{Effort}
 
 -- So many root variables more, for any types.
 abbrev pub with_roots : ℕ → State → State
@@ -70,10 +71,10 @@ pub record IsReadGoal (c : Context) (p : TraitPredicate) : Type 0 where
 
 -- What a goal comes to in an evaluator, and the evaluator that is left: nothing, where it may not be asked; else the verdict that a run of
 -- so many rounds at most leaves for it. Its key is looked at first, which changes nothing but nodes.
-pub data Comes (r : Evaluator) (env : ParamEnv) (p : TraitPredicate) (count : ℕ) (last : Evaluator) : Option Verdict → Type 0 where
-  not_asked : (s : Evaluator) → StaysBesideTable r s → may_be_asked (key_for s env p) ≡ false → Comes r env p count last None
-  ran : (s : Evaluator) (v : Verdict) → StaysBesideTable r s → table_of s ≡ table_of r → IsRun (computing s) (key_for s env p) count (table_of s) (table_of last)
-      → verdict_in (table_of last) (key_for s env p) ≡ Some (verdict_seen last.context.trees v) → Comes r env p count last (Some v)
+pub data Comes (r : Evaluator) (env : ParamEnv) (p : TraitPredicate) (effort : Effort) (last : Evaluator) : Option Verdict → Type 0 where
+  not_asked : (s : Evaluator) → StaysBesideTable r s → may_be_asked (key_for s env p) ≡ false → Comes r env p effort last None
+  ran : (s : Evaluator) (v : Verdict) → StaysBesideTable r s → table_of s ≡ table_of r → Runs (computing s) (key_for s env p) effort (table_of s) (table_of last)
+      → verdict_in (table_of last) (key_for s env p) ≡ Some (verdict_seen last.context.trees v) → Comes r env p effort last (Some v)
 
 -- The evaluator is the first one, with root variables if the goal has variables; and the environment has these clauses, in their order.
 pub record IsReady (first : Evaluator) (cs : List Clause) (p : TraitPredicate) (r : Evaluator) (env : ParamEnv) : Type 0 where
@@ -84,9 +85,9 @@ pub record IsReady (first : Evaluator) (cs : List Clause) (p : TraitPredicate) (
   pub clauses : env_forest r.context.trees env ≡ clause_list_forest first.context.trees cs
 
 -- What a goal comes to under clauses; nothing, where a bound variable escapes from it.
-pub data ComesUnder (first last : Evaluator) (cs : List Clause) (p : TraitPredicate) (count : ℕ) : Option Verdict → Type 0 where
-  open_goal : escapes 0 (args_forest first.context.trees p.trait_ref.args) ≡ true → ComesUnder first last cs p count None
-  asked : (r : Evaluator) (env : ParamEnv) {v : Option Verdict} → IsReady first cs p r env → Comes r env p count last v → ComesUnder first last cs p count v
+pub data ComesUnder (first last : Evaluator) (cs : List Clause) (p : TraitPredicate) (effort : Effort) : Option Verdict → Type 0 where
+  open_goal : escapes 0 (args_forest first.context.trees p.trait_ref.args) ≡ true → ComesUnder first last cs p effort None
+  asked : (r : Evaluator) (env : ParamEnv) {v : Option Verdict} → IsReady first cs p r env → Comes r env p effort last v → ComesUnder first last cs p effort v
 
 -- A new evaluator over the context: it answers by what is given, knows nothing yet, and is in the given mode.
 pub record IsNewFor (c : Context) (g : Given) (r : Evaluator) : Type 0 where
@@ -102,35 +103,35 @@ pub record IsOpenFor (c : Context) (g : Given) (r : Evaluator) : Type 0 where
 
 -- What a goal of a text comes to under what is given: what it comes to under the given clauses in a new evaluator, which knows nothing yet
 -- and is in the given mode.
-pub record IsSolved (c : Context) (g : Given) (p : TraitPredicate) (count : ℕ) (last : Context) (v : Option Verdict) : Type 0 where
+pub record IsSolved (c : Context) (g : Given) (p : TraitPredicate) (effort : Effort) (last : Context) (v : Option Verdict) : Type 0 where
   pub first : Evaluator
   pub left : Evaluator
   pub context : first.context ≡ c
   pub fixed_is : fixed first ≡ fixed_for c g
   pub state_is : state first ≡ nothing_known g.mode
-  pub comes : ComesUnder first left g.clauses.items p count v
+  pub comes : ComesUnder first left g.clauses.items p effort v
   pub leaves : left.context ≡ last
 
 -- To a text is added what the goal comes to, in words.
-pub record AddsGoal (c : Context) (g : Given) (p : TraitPredicate) (count : ℕ) (last : Context) (old new : List ℕ) : Type 0 where
+pub record AddsGoal (c : Context) (g : Given) (p : TraitPredicate) (effort : Effort) (last : Context) (old new : List ℕ) : Type 0 where
   pub verdict : Option Verdict
-  pub solved : IsSolved c g p count last verdict
+  pub solved : IsSolved c g p effort last verdict
   pub added : new ≡ old ++ verdict_text verdict
 
 -- The same where values of variables are asked for besides, so that the evaluator and its context have gone on since.
 
-abbrev pub ComesBefore : Evaluator → Evaluator → List Clause → TraitPredicate → ℕ → Option Verdict → Type 0
-ComesBefore first last cs p count v = (left : Evaluator) × ComesUnder first left cs p count v × Grows left.context last.context
+abbrev pub ComesBefore : Evaluator → Evaluator → List Clause → TraitPredicate → Effort → Option Verdict → Type 0
+ComesBefore first last cs p effort v = (left : Evaluator) × ComesUnder first left cs p effort v × Grows left.context last.context
 
-abbrev pub IsSolvedBefore : Context → Given → TraitPredicate → ℕ → Context → Option Verdict → Type 0
-IsSolvedBefore c g p count last v = (left : Context) × IsSolved c g p count left v × Grows left last
+abbrev pub IsSolvedBefore : Context → Given → TraitPredicate → Effort → Context → Option Verdict → Type 0
+IsSolvedBefore c g p effort last v = (left : Context) × IsSolved c g p effort left v × Grows left last
 
 -- the types that variables stand for are of the context
 abbrev pub AreValues : List Tree → List (ℕ × Ty) → Type 0
 AreValues ts xs = All (λ (x : ℕ × Ty). IsTy ts x.1) xs
 
 -- To a text is added what the goal comes to, in words, and then some words for what variables stand for, or why it is so.
-pub record AddsGoalWithValues (c : Context) (g : Given) (p : TraitPredicate) (count : ℕ) (last : Context) (old new : List ℕ) : Type 0 where
+pub record AddsGoalWithValues (c : Context) (g : Given) (p : TraitPredicate) (effort : Effort) (last : Context) (old new : List ℕ) : Type 0 where
   pub verdict : Option Verdict
-  pub solved : IsSolvedBefore c g p count last verdict
+  pub solved : IsSolvedBefore c g p effort last verdict
   pub added : AddsVerdict verdict old new

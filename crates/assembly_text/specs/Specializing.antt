@@ -29,6 +29,7 @@ use Rattle.assembly_text.specs.declared.comparing.Found.TheVariants as found
 use Rattle.assembly_text.specs.Overlapping.{IsOverlapAnyway, IsOverlapSolved, IsOverlapStopped}
 use Rattle.assembly_text.specs.Solving.{fixed_for, nothing_known}
 use Rattle.assembly_text.specs.Together.{IsApart}
+use Rattle.candidate_rounds.specs.declared.rounds.effort.Effort.{Effort}
 
 -- A new evaluator over the context: it answers by what is given, knows nothing yet, and asks goals outside coherence, whatever the given mode is.
 pub record IsTesterFor (c : Context) (g : Given) (r : Evaluator) : Type 0 where
@@ -145,9 +146,9 @@ pub data IsNotOtherBy (first : Context) (g : Given) (by_line : Bool) (a b : Impl
   other_unsaid : IsSpecial first g b a → by_line ≡ true → is_declared_special first b a ≡ false → IsNotOtherBy first g by_line a b
 
 -- It is what a new evaluator answers of whether the two overlap, over a context that comes after that one, as they are declared or anyway.
-pub data IsAnswerOf (first : Context) (g : Given) (count : ℕ) (a b : ImplId) (o : Overlap) : Type 0 where
-  as_declared : (c last : Context) → Grows first c → IsOverlapSolved c g a b count last o → IsAnswerOf first g count a b o
-  anyway : (c last : Context) → Grows first c → IsOverlapAnyway c g a b count last o → IsAnswerOf first g count a b o
+pub data IsAnswerOf (first : Context) (g : Given) (effort : Effort) (a b : ImplId) (o : Overlap) : Type 0 where
+  as_declared : (c last : Context) → Grows first c → IsOverlapSolved c g a b effort last o → IsAnswerOf first g effort a b o
+  anyway : (c last : Context) → Grows first c → IsOverlapAnyway c g a b effort last o → IsAnswerOf first g effort a b o
 
 -- they are disjoint, or one of them is a reservation
 abbrev pub KeepsQuiet : Overlap → Type 0
@@ -157,11 +158,11 @@ KeepsQuiet _ = Unit {0}
 
 -- There is nothing to find of the two: such an answer; or one of them specialises the other one, and a line says so; or they may overlap, but their
 -- where clauses can't hold together, or one of them is known not to hold where the other impl does, and that is asked for.
-pub data HasNothing (first : Context) (g : Given) (count : ℕ) (a b : ImplId) : Type 0 where
-  by_answer : (o : Overlap) → IsAnswerOf first g count a b o → KeepsQuiet o → HasNothing first g count a b
-  by_line : (s t : ImplId) → IsSpecialOfThem first g true a b s t → HasNothing first g count a b
-  by_clauses : (x : CommonInstance) → IsAnswerOf first g count a b (O.May x) → IsApart first g a b → HasNothing first g count a b
-  by_negation : (x : CommonInstance) (w : WhereClause) → IsAnswerOf first g count a b (O.May x) → IsNegatedClause first g a b w → HasNothing first g count a b
+pub data HasNothing (first : Context) (g : Given) (effort : Effort) (a b : ImplId) : Type 0 where
+  by_answer : (o : Overlap) → IsAnswerOf first g effort a b o → KeepsQuiet o → HasNothing first g effort a b
+  by_line : (s t : ImplId) → IsSpecialOfThem first g true a b s t → HasNothing first g effort a b
+  by_clauses : (x : CommonInstance) → IsAnswerOf first g effort a b (O.May x) → IsApart first g a b → HasNothing first g effort a b
+  by_negation : (x : CommonInstance) (w : WhereClause) → IsAnswerOf first g effort a b (O.May x) → IsNegatedClause first g a b w → HasNothing first g effort a b
 
 -- The first one specialises the second one, and the feature is used.
 pub record IsFoundSpecial (first : Context) (g : Given) (a b s t : ImplId) : Type 0 where
@@ -173,10 +174,10 @@ abbrev pub NoneIfUsed : Context → Given → ImplId → ImplId → Type 0
 NoneIfUsed first g a b = g.specialization ≡ true → NoneSpecializesAlone first g false a b
 
 -- What is found of the two.
-abbrev pub IsFoundOf : Context → Given → ℕ → ImplId → ImplId → Found → Type 0
-IsFoundOf first g count a b found.Nothing = HasNothing first g count a b
-IsFoundOf first g count a b (found.Instance x) = IsAnswerOf first g count a b (O.May x) × NoneIfUsed first g a b
-IsFoundOf first g count a b (found.Specializes s t) = IsFoundSpecial first g a b s t
+abbrev pub IsFoundOf : Context → Given → Effort → ImplId → ImplId → Found → Type 0
+IsFoundOf first g effort a b found.Nothing = HasNothing first g effort a b
+IsFoundOf first g effort a b (found.Instance x) = IsAnswerOf first g effort a b (O.May x) × NoneIfUsed first g a b
+IsFoundOf first g effort a b (found.Specializes s t) = IsFoundSpecial first g a b s t
 
 -- That instance, and that neither specialises the other one alone where the feature is used; or one that specialises the other one.
 abbrev pub IsInstanceOr : Context → Given → ImplId → ImplId → CommonInstance → Found → Type 0

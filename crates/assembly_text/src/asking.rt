@@ -17,10 +17,11 @@ ghost use Rattle.assembly_text.specs.Normalizing.{AddsNormal, IsNormal, IsNormal
 ghost use Rattle.assembly_text.specs.Negating.{AddsSomeOverlap};
 ghost use Rattle.assembly_text.specs.Overlapping.{IsOverlapAnyway, IsOverlapSolved, IsOverlapStopped};
 ghost use Rattle.assembly_text.specs.Specializing.{IsTestStopped, IsTested};
-ghost use Rattle.assembly_notation.specs.Lines.{rounds_of_line};
+ghost use Rattle.assembly_text.specs.Efforts.{effort_of_line};
 ghost use Rattle.assembly_notation.specs.Params.{Lacks};
 ghost use Rattle.assembly_text.specs.Solving.{AddsGoal, AddsGoalWithValues, AreValues, IsReadGoal, IsSolved, IsSolvedBefore};
 ghost use Rattle.candidate_eval.specs.Knowability.Calls.{plain_check_of, plain_knowledge_about, HasNoParam, HasNoAlias, HasNoAliasOrError, IsOfForeignTrait, NoForeignHeaderHere, NoUnnamedHeaderHere, NoCoveredHeaderHere, IsDecidedByGeneralHere, HasDownstreamHere};
+ghost use Rattle.candidate_rounds.specs.Table.Efforts.{IsEffort};
 
 use crate::solving::{
     Normal, Solved, normalize, overlap, overlap_anyway, solve, solve_for_values,
@@ -37,6 +38,7 @@ use candidate_eval::coherence::{
     Conflict, InCrate, NormalizeErr, OrphanCheckErr, OrphanCheckMode, OrphanStop,
     orphan_check_trait_ref, trait_ref_is_knowable,
 };
+use candidate_rounds::rounds::effort::Effort;
 use candidate_rounds::rounds::goals::Verdict;
 use candidate_rounds::rounds::normalizing::trait_predicate;
 use ir_context::decl::context::Cx;
@@ -335,21 +337,21 @@ impl<'a> Asking<'a> {
         })
     }
 
-    /// What follows `solve` and the like: in how many rounds, and the goal.
+    /// What follows `solve` and the like: how long the goal is computed, and the goal.
     pub(crate) fn goal<'b>(
         &mut self,
         words: &mut Words<'b>,
-    ) -> Result<(u16, TraitPredicate), Fault<'b>>
-        ensures some { IfOk result (λ r. 0 < r.0) }
-        ensures named { IfOk result (λ r. r.0 ≡ rounds_of_line words.old.rest.now) }
+    ) -> Result<(Effort, TraitPredicate), Fault<'b>>
+        ensures some { IfOk result (λ r. IsEffort r.0) }
+        ensures named { IfOk result (λ r. r.0 ≡ effort_of_line words.old.rest.now) }
         ensures read { IfOk result (λ r. IsReadGoal self.new.scope.maker r.1) }
         ensures grows { Grows self.old.scope.maker self.new.scope.maker }
         ensures given { self.new.given ≡ self.old.given }
         ensures answer { self.new.answer ≡ self.old.answer }
     {
-        let count = rounds(words)?;
+        let effort = read_effort(words)?;
         let predicate = self.predicate(words)?;
-        Ok((count, predicate))
+        Ok((effort, predicate))
     }
 
     /// Makes the answer to a line that asks what a goal comes to.
@@ -361,40 +363,40 @@ impl<'a> Asking<'a> {
     {
         self.forget();
         match self.goal(&mut words) {
-            Ok((count, predicate)) => {
-                let (asking, made) = self.answered(predicate, count);
+            Ok((effort, predicate)) => {
+                let (asking, made) = self.answered(predicate, effort);
                 (asking, Ok(made))
             }
             Err(fault) => (self, Err(fault)),
         }
     }
 
-    /// Adds what the goal comes to in so many rounds at most.
-    fn answered(self, predicate: TraitPredicate, count: u16) -> (Asking<'a>, Result<(), Stop>)
-        requires some { 0 < count }
+    /// Adds what the goal comes to by that effort.
+    fn answered(self, predicate: TraitPredicate, effort: Effort) -> (Asking<'a>, Result<(), Stop>)
+        requires some { IsEffort effort }
         requires read { IsReadGoal self.scope.maker predicate }
         ensures grows { Grows self.entry.scope.maker result.0.scope.maker }
-        ensures adds { OnOk result.1 (AddsGoal self.entry.scope.maker self.entry.given predicate count result.0.scope.maker (string_bytes self.entry.answer) (string_bytes result.0.answer)) }
+        ensures adds { OnOk result.1 (AddsGoal self.entry.scope.maker self.entry.given predicate effort result.0.scope.maker (string_bytes self.entry.answer) (string_bytes result.0.answer)) }
     {
-        let (mut asking, verdict) = self.solved(predicate, count);
+        let (mut asking, verdict) = self.solved(predicate, effort);
         let made = asking.print_verdict(verdict);
         (asking, made)
     }
 
-    /// What the goal comes to in so many rounds at most.
+    /// What the goal comes to by that effort.
     fn solved(
         self,
         predicate: TraitPredicate,
-        count: u16,
+        effort: Effort,
     ) -> (Asking<'a>, Result<Option<Verdict>, Stop>)
-        requires some { 0 < count }
+        requires some { IsEffort effort }
         requires read { IsReadGoal self.scope.maker predicate }
         ensures grows { Grows self.entry.scope.maker result.0.scope.maker }
-        ensures comes { IfOk result.1 (λ v. IsSolved self.entry.scope.maker self.entry.given predicate count result.0.scope.maker v) }
+        ensures comes { IfOk result.1 (λ v. IsSolved self.entry.scope.maker self.entry.given predicate effort result.0.scope.maker v) }
         ensures answer { result.0.answer ≡ self.entry.answer }
     {
         let (maker, rest) = self.apart();
-        let (maker, verdict) = solve(rest.alloc, maker, &rest.given, predicate, count);
+        let (maker, verdict) = solve(rest.alloc, maker, &rest.given, predicate, effort);
         (rest.with(maker), verdict)
     }
 
@@ -407,80 +409,83 @@ impl<'a> Asking<'a> {
     {
         self.forget();
         match self.goal(&mut words) {
-            Ok((count, predicate)) => {
-                let (asking, made) = self.answered_with_values(predicate, count);
+            Ok((effort, predicate)) => {
+                let (asking, made) = self.answered_with_values(predicate, effort);
                 (asking, Ok(made))
             }
             Err(fault) => (self, Err(fault)),
         }
     }
 
-    /// Adds what the goal comes to in so many rounds at most, and what its variables stand for.
+    /// Adds what the goal comes to by that effort, and what its variables stand for.
     fn answered_with_values(
         self,
         predicate: TraitPredicate,
-        count: u16,
+        effort: Effort,
     ) -> (Asking<'a>, Result<(), Stop>)
-        requires some { 0 < count }
+        requires some { IsEffort effort }
         requires read { IsReadGoal self.scope.maker predicate }
         ensures grows { Grows self.entry.scope.maker result.0.scope.maker }
-        ensures adds { OnOk result.1 (AddsGoalWithValues self.entry.scope.maker self.entry.given predicate count result.0.scope.maker (string_bytes self.entry.answer) (string_bytes result.0.answer)) }
+        ensures adds { OnOk result.1 (AddsGoalWithValues self.entry.scope.maker self.entry.given predicate effort result.0.scope.maker (string_bytes self.entry.answer) (string_bytes result.0.answer)) }
     {
-        let (mut asking, solved) = self.solved_for_values(predicate, count);
+        let (mut asking, solved) = self.solved_for_values(predicate, effort);
         let made = asking.print_solved(solved);
         (asking, made)
     }
 
-    /// What the goal comes to in so many rounds at most, and what its variables stand for.
+    /// What the goal comes to by that effort, and what its variables stand for.
     fn solved_for_values(
         self,
         predicate: TraitPredicate,
-        count: u16,
+        effort: Effort,
     ) -> (Asking<'a>, Result<Solved, Stop>)
-        requires some { 0 < count }
+        requires some { IsEffort effort }
         requires read { IsReadGoal self.scope.maker predicate }
         ensures grows { Grows self.entry.scope.maker result.0.scope.maker }
-        ensures comes { IfOk result.1 (λ s. IsSolvedBefore self.entry.scope.maker self.entry.given predicate count result.0.scope.maker s.verdict) }
+        ensures comes { IfOk result.1 (λ s. IsSolvedBefore self.entry.scope.maker self.entry.given predicate effort result.0.scope.maker s.verdict) }
         ensures sorts { IfOk result.1 (λ s. AreValues result.0.scope.maker.trees s.values.items) }
         ensures answer { result.0.answer ≡ self.entry.answer }
     {
         let (maker, rest) = self.apart();
-        let (maker, solved) = solve_for_values(rest.alloc, maker, &rest.given, predicate, count);
+        let (maker, solved) = solve_for_values(rest.alloc, maker, &rest.given, predicate, effort);
         (rest.with(maker), solved)
     }
 
     /// What follows `normalize`: in how many rounds, whether that is as many as it takes, and the projection.
     ///
     /// Besides the faults of the words, `Fault::NotAnAlias` comes where the type is no projection.
-    fn projection<'b>(&mut self, words: &mut Words<'b>) -> Result<(u16, bool, AliasTy), Fault<'b>>
-        ensures some { IfOk result (λ r. 0 < r.0) }
-        ensures named { IfOk result (λ r. r.0 ≡ rounds_of_line words.old.rest.now) }
+    fn projection<'b>(
+        &mut self,
+        words: &mut Words<'b>,
+    ) -> Result<(Effort, bool, AliasTy), Fault<'b>>
+        ensures some { IfOk result (λ r. IsEffort r.0) }
+        ensures named { IfOk result (λ r. r.0 ≡ effort_of_line words.old.rest.now) }
         ensures all { IfOk result (λ r. r.1 ≡ names_all words.old.rest.now) }
         ensures projection { IfOk result (λ r. IsReadProjection self.new.scope.maker r.2) }
         ensures grows { Grows self.old.scope.maker self.new.scope.maker }
         ensures given { self.new.given ≡ self.old.given }
         ensures answer { self.new.answer ≡ self.old.answer }
     {
-        let (count, waits) = rounds_or_all(words)?;
+        let (effort, waits) = read_effort_or_all(words)?;
         let ty = self.scope.read_type(words, Binders::none(), MAX_DEPTH)?;
         let alias = projection_of(&self.scope.maker, ty)?;
         words.end()?;
-        Ok((count, waits, alias))
+        Ok((effort, waits, alias))
     }
 
     /// What follows `overlap`: in how many rounds, and two impls.
     pub(crate) fn two_impls<'b>(
         &self,
         words: &mut Words<'b>,
-    ) -> Result<(u16, ImplId, ImplId), Fault<'b>>
-        ensures some { IfOk result (λ r. 0 < r.0) }
-        ensures named { IfOk result (λ r. r.0 ≡ rounds_of_line words.old.rest.now) }
+    ) -> Result<(Effort, ImplId, ImplId), Fault<'b>>
+        ensures some { IfOk result (λ r. IsEffort r.0) }
+        ensures named { IfOk result (λ r. r.0 ≡ effort_of_line words.old.rest.now) }
     {
-        let count = rounds(words)?;
+        let effort = read_effort(words)?;
         let first = self.scope.names.next_named(words)?;
         let second = self.scope.names.next_named(words)?;
         words.end()?;
-        Ok((count, first, second))
+        Ok((effort, first, second))
     }
 
     /// Makes the answer to a line that asks whether two impls overlap.
@@ -492,62 +497,69 @@ impl<'a> Asking<'a> {
     {
         self.forget();
         match self.two_impls(&mut words) {
-            Ok((count, first, second)) => {
-                let (asking, made) = self.answered_with_overlap(first, second, count);
+            Ok((effort, first, second)) => {
+                let (asking, made) = self.answered_with_overlap(first, second, effort);
                 (asking, Ok(made))
             }
             Err(fault) => (self, Err(fault)),
         }
     }
 
-    /// Whether the two impls overlap, in so many rounds for each where clause.
+    /// Whether the two impls overlap, by that effort for each where clause.
     pub(crate) fn overlapped(
         self,
         first: ImplId,
         second: ImplId,
-        count: u16,
+        effort: Effort,
     ) -> (Asking<'a>, Result<Overlap, Stop>)
-        requires some { 0 < count }
+        requires some { IsEffort effort }
         ensures grows { Grows self.entry.scope.maker result.0.scope.maker }
-        ensures is { IfOk result.1 (IsOverlapSolved self.entry.scope.maker self.entry.given first second count result.0.scope.maker) }
+        ensures is { IfOk result.1 (IsOverlapSolved self.entry.scope.maker self.entry.given first second effort result.0.scope.maker) }
         ensures stopped { IfErr result.1 (IsOverlapStopped self.entry.scope.maker self.entry.given result.0.scope.maker) }
         ensures names { result.0.scope.names ≡ self.entry.scope.names }
         ensures given { result.0.given ≡ self.entry.given }
         ensures answer { result.0.answer ≡ self.entry.answer }
     {
         let (maker, rest) = self.apart();
-        let (maker, overlap) = overlap(rest.alloc, maker, &rest.given, first, second, count);
+        let (maker, overlap) = overlap(rest.alloc, maker, &rest.given, first, second, effort);
         (rest.with(maker), overlap)
     }
 
-    /// Whether the two impls overlap, whatever lines declare of them, in so many rounds for each where clause.
+    /// Whether the two impls overlap, whatever lines declare of them, by that effort for each where clause.
     pub(crate) fn overlapped_anyway(
         self,
         first: ImplId,
         second: ImplId,
-        count: u16,
+        effort: Effort,
     ) -> (Asking<'a>, Result<Overlap, Stop>)
-        requires some { 0 < count }
+        requires some { IsEffort effort }
         ensures grows { Grows self.entry.scope.maker result.0.scope.maker }
-        ensures is { IfOk result.1 (IsOverlapAnyway self.entry.scope.maker self.entry.given first second count result.0.scope.maker) }
+        ensures is { IfOk result.1 (IsOverlapAnyway self.entry.scope.maker self.entry.given first second effort result.0.scope.maker) }
         ensures stopped { IfErr result.1 (IsOverlapStopped self.entry.scope.maker self.entry.given result.0.scope.maker) }
         ensures names { result.0.scope.names ≡ self.entry.scope.names }
         ensures given { result.0.given ≡ self.entry.given }
         ensures answer { result.0.answer ≡ self.entry.answer }
     {
         let (maker, rest) = self.apart();
-        let (maker, overlap) = overlap_anyway(rest.alloc, maker, &rest.given, first, second, count);
+        let (maker, overlap) = overlap_anyway(
+            rest.alloc,
+            maker,
+            &rest.given,
+            first,
+            second,
+            effort,
+        );
         (rest.with(maker), overlap)
     }
 
-    /// Whether the first impl specialises the second one, in so many rounds for each where clause.
+    /// Whether the first impl specialises the second one, by that effort for each where clause.
     pub(crate) fn tested(
         self,
         special: ImplId,
         general: ImplId,
-        count: u16,
+        effort: Effort,
     ) -> (Asking<'a>, Result<Specialization, Stop>)
-        requires some { 0 < count }
+        requires some { IsEffort effort }
         ensures grows { Grows self.entry.scope.maker result.0.scope.maker }
         ensures is { IfOk result.1 (IsTested self.entry.scope.maker self.entry.given special general result.0.scope.maker) }
         ensures stopped { IfErr result.1 (IsTestStopped self.entry.scope.maker self.entry.given result.0.scope.maker) }
@@ -562,7 +574,7 @@ impl<'a> Asking<'a> {
             &rest.given,
             special,
             general,
-            count,
+            effort,
         );
         (rest.with(maker), answer)
     }
@@ -576,27 +588,27 @@ impl<'a> Asking<'a> {
     {
         self.forget();
         match self.projection(&mut words) {
-            Ok((count, waits, alias)) => {
-                let (asking, made) = self.answered_with_normal(alias, count, waits);
+            Ok((effort, waits, alias)) => {
+                let (asking, made) = self.answered_with_normal(alias, effort, waits);
                 (asking, Ok(made))
             }
             Err(fault) => (self, Err(fault)),
         }
     }
 
-    /// Adds what the projection comes to in so many rounds at most, or, if it `waits`, once the goal of its trait is final.
+    /// Adds what the projection comes to by that effort, or, if it `waits`, once the goal of its trait is final.
     fn answered_with_normal(
         self,
         alias: AliasTy,
-        count: u16,
+        effort: Effort,
         waits: bool,
     ) -> (Asking<'a>, Result<(), Stop>)
-        requires some { 0 < count }
+        requires some { IsEffort effort }
         requires projection { IsReadProjection self.scope.maker alias }
         ensures grows { Grows self.entry.scope.maker result.0.scope.maker }
-        ensures adds { OnOk result.1 (AddsNormal self.entry.scope.maker self.entry.given alias count waits result.0.scope.maker (string_bytes self.entry.answer) (string_bytes result.0.answer)) }
+        ensures adds { OnOk result.1 (AddsNormal self.entry.scope.maker self.entry.given alias effort waits result.0.scope.maker (string_bytes self.entry.answer) (string_bytes result.0.answer)) }
     {
-        let (mut asking, normal) = self.normalized(alias, count, waits);
+        let (mut asking, normal) = self.normalized(alias, effort, waits);
         let made = asking.print_normal(normal);
         (asking, made)
     }
@@ -605,18 +617,18 @@ impl<'a> Asking<'a> {
     fn normalized(
         self,
         alias: AliasTy,
-        count: u16,
+        effort: Effort,
         waits: bool,
     ) -> (Asking<'a>, Result<Normal, Stop>)
-        requires some { 0 < count }
+        requires some { IsEffort effort }
         requires projection { IsReadProjection self.scope.maker alias }
         ensures grows { Grows self.entry.scope.maker result.0.scope.maker }
         ensures sort { IfOk result.1 (IsNormal result.0.scope.maker.trees) }
-        ensures comes { IfOk result.1 (λ n. IsNormalSolved self.entry.scope.maker self.entry.given alias count waits result.0.scope.maker n) }
+        ensures comes { IfOk result.1 (λ n. IsNormalSolved self.entry.scope.maker self.entry.given alias effort waits result.0.scope.maker n) }
         ensures answer { result.0.answer ≡ self.entry.answer }
     {
         let (maker, rest) = self.apart();
-        let (maker, normal) = normalize(rest.alloc, maker, &rest.given, alias, count, waits);
+        let (maker, normal) = normalize(rest.alloc, maker, &rest.given, alias, effort, waits);
         (rest.with(maker), normal)
     }
 
@@ -658,28 +670,28 @@ impl<'a> Asking<'a> {
     }
 }
 
-/// In how many rounds: a number, or `*`, until nothing changes, but no more than may be asked for.
-pub(crate) fn rounds<'a>(words: &mut Words<'a>) -> Result<u16, Fault<'a>>
-    ensures some { IfOk result (λ n. 0 < n) }
-    ensures named { IfOk result (λ n. n ≡ rounds_of_line words.old.rest.now) }
+/// How long goals are computed: in so many rounds, or by `*` as long as needed.
+pub(crate) fn read_effort<'a>(words: &mut Words<'a>) -> Result<Effort, Fault<'a>>
+    ensures some { IfOk result (λ n. IsEffort n) }
+    ensures named { IfOk result (λ n. n ≡ effort_of_line words.old.rest.now) }
 {
-    let (count, _) = rounds_or_all(words)?;
-    Ok(count)
+    let (effort, _) = read_effort_or_all(words)?;
+    Ok(effort)
 }
 
 /// The same, and whether it is `*`.
-fn rounds_or_all<'a>(words: &mut Words<'a>) -> Result<(u16, bool), Fault<'a>>
-    ensures some { IfOk result (λ n. 0 < n.0) }
-    ensures named { IfOk result (λ n. n.0 ≡ rounds_of_line words.old.rest.now) }
+fn read_effort_or_all<'a>(words: &mut Words<'a>) -> Result<(Effort, bool), Fault<'a>>
+    ensures some { IfOk result (λ n. IsEffort n.0) }
+    ensures named { IfOk result (λ n. n.0 ≡ effort_of_line words.old.rest.now) }
     ensures all { IfOk result (λ n. n.1 ≡ names_all words.old.rest.now) }
 {
     let mut ahead = *words;
     match ahead.next_word() {
         Some(word) if is_star(word) => {
             *words = ahead;
-            Ok((MAX_ROUNDS, true))
+            Ok((Effort::AsNeeded, true))
         }
-        _ => Ok((words.number(1, MAX_ROUNDS)?, false)),
+        _ => Ok((Effort::Rounds(words.number(1, MAX_ROUNDS)?), false)),
     }
 }
 

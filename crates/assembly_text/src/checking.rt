@@ -11,13 +11,14 @@ ghost use Rattle.ir_trees.specs.Syntax.Words.{IsArgs, args_forest};
 ghost use Rattle.candidate_eval.specs.Judges.States.{variable, variable_kind};
 ghost use Rattle.candidate_eval.specs.Knowability.Answers.{AreAnswerTypes, answer_of};
 ghost use Rattle.candidate_eval.specs.Knowability.Calls.{HasNoParam};
-ghost use Rattle.assembly_notation.specs.Lines.{rounds_of_line};
+ghost use Rattle.assembly_text.specs.Efforts.{effort_of_line};
 ghost use Rattle.assembly_text.specs.Asking.{declared_part};
 ghost use Rattle.assembly_text.specs.Checking.{AddsFailure, AddsFound, AddsOfAll, AddsOfImpl, AddsOfLine, AddsOfLines, AddsOfPair, AddsOfPairs, AddsTest, AddsWhereRefused, AddsWithOthers, HasError, IsDeclaredAlone, IsLength, SaysFindings, SaysFindingsOfLine, Stays, found_text, impl_text, origin_text, is_checked_alone, is_positive_impl, line_text, lint_text, or_ok, orphan_text, pair_text, place_text, special_text, stop_text, stopped_text};
 ghost use Rattle.assembly_text.specs.Specializing.{IsPrintableFound, specialized_by};
 ghost use Rattle.assembly_text.specs.Paired.{HasAllThatMayOverlap, HasImplsWithAliases, IsOpenHeader, IsPairedHere, IsPairedWithAll, is_asked_with, listed_of, one_if, trait_with_alias, variables_for};
+ghost use Rattle.candidate_rounds.specs.Table.Efforts.{IsEffort};
 
-use crate::asking::{Asking, rounds};
+use crate::asking::{Asking, read_effort};
 use crate::comparing::Found;
 use crate::printing::word_before_instance;
 use assembly_notation::faults::Fault;
@@ -25,6 +26,7 @@ use assembly_notation::names::{NamedImpl, Origin};
 use assembly_notation::words::Words;
 use candidate_eval::coherence::{InCrate, OrphanCheckErr, OrphanCheckMode, OrphanStop};
 use candidate_eval::eval::clauses::self_ty;
+use candidate_rounds::rounds::effort::Effort;
 use ir_context::decl::context::Cx;
 use ir_context::decl::make::Build;
 use ir_context::decl::unify_count::UnifyCount;
@@ -112,9 +114,9 @@ impl<'a> Asking<'a> {
         ensures { IfOk result.1 (λ made. OnOk made (SaysFindingsOfLine words.entry.rest.now self.entry.scope.names (declared_part self.entry.scope.maker) self.entry.given (string_bytes result.0.answer))) }
     {
         self.forget();
-        match rounds_alone(&mut words) {
-            Ok(count) => {
-                let (asking, made) = self.answered_with_findings(count);
+        match read_effort_alone(&mut words) {
+            Ok(effort) => {
+                let (asking, made) = self.answered_with_findings(effort);
                 (asking, Ok(made))
             }
             Err(fault) => (self, Err(fault)),
@@ -122,13 +124,13 @@ impl<'a> Asking<'a> {
     }
 
     /// Adds what is found, or that nothing is.
-    fn answered_with_findings(self, count: u16) -> (Asking<'a>, Result<(), Stop>)
-        requires some { 0 < count }
+    fn answered_with_findings(self, effort: Effort) -> (Asking<'a>, Result<(), Stop>)
+        requires some { IsEffort effort }
         requires declared { IsDeclaredAlone self.scope.maker }
         requires nothing { string_bytes self.answer ≡ [] }
-        ensures { OnOk result.1 (SaysFindings self.entry.scope.names self.entry.scope.maker self.entry.given count (string_bytes result.0.answer)) }
+        ensures { OnOk result.1 (SaysFindings self.entry.scope.names self.entry.scope.maker self.entry.given effort (string_bytes result.0.answer)) }
     {
-        let (mut asking, found) = self.with_findings(count);
+        let (mut asking, found) = self.with_findings(effort);
         let Ok(()) = found else {
             return (asking, found);
         };
@@ -147,12 +149,12 @@ impl<'a> Asking<'a> {
     }
 
     /// Adds what is found of each impl, in their order.
-    fn with_findings(self, count: u16) -> (Asking<'a>, Result<(), Stop>)
-        requires some { 0 < count }
+    fn with_findings(self, effort: Effort) -> (Asking<'a>, Result<(), Stop>)
+        requires some { IsEffort effort }
         requires declared { IsDeclaredAlone self.scope.maker }
         ensures declared { IsDeclaredAlone result.0.scope.maker }
         ensures stays { Stays self.entry result.0 }
-        ensures found { OnOk result.1 (AddsOfAll count self.entry result.0) }
+        ensures found { OnOk result.1 (AddsOfAll effort self.entry result.0) }
     {
         let mut asking = self;
         let impls = number_of(asking.scope.names.impls.len());
@@ -165,7 +167,7 @@ impl<'a> Asking<'a> {
             Err(stop) => return (asking, Err(stop)),
         };
         for number in 0..impls {
-            let (asked, made) = asking.with_impl(ImplId(number), &with_aliases, count);
+            let (asked, made) = asking.with_impl(ImplId(number), &with_aliases, effort);
             asking = asked;
             let Ok(()) = made else {
                 return (asking, made);
@@ -179,14 +181,14 @@ impl<'a> Asking<'a> {
         mut self,
         of: ImplId,
         with_aliases: &ImplsWithAliases,
-        count: u16,
+        effort: Effort,
     ) -> (Asking<'a>, Result<(), Stop>)
-        requires some { 0 < count }
+        requires some { IsEffort effort }
         requires declared { IsDeclaredAlone self.scope.maker }
         requires aliases { HasImplsWithAliases self.scope.maker with_aliases.now }
         ensures declared { IsDeclaredAlone result.0.scope.maker }
         ensures stays { Stays self.entry result.0 }
-        ensures found { OnOk result.1 (AddsWithOthers count with_aliases.now.number of self.entry result.0) }
+        ensures found { OnOk result.1 (AddsWithOthers effort with_aliases.now.number of self.entry result.0) }
     {
         let made = self.look_at(of, with_aliases);
         self.forget_nodes();
@@ -194,16 +196,16 @@ impl<'a> Asking<'a> {
             Ok(later) => later,
             Err(stop) => return (self, Err(stop)),
         };
-        let (asking, made) = self.with_lines(of, count);
+        let (asking, made) = self.with_lines(of, effort);
         match made {
-            Ok(()) => asking.with_pairs(of, later.as_slice(), count),
+            Ok(()) => asking.with_pairs(of, later.as_slice(), effort),
             Err(stop) => (asking, Err(stop)),
         }
     }
 
     /// Adds each line by which the impl is declared to specialise another one, but doesn't.
-    fn with_lines(self, of: ImplId, count: u16) -> (Asking<'a>, Result<(), Stop>)
-        requires some { 0 < count }
+    fn with_lines(self, of: ImplId, effort: Effort) -> (Asking<'a>, Result<(), Stop>)
+        requires some { IsEffort effort }
         requires declared { IsDeclaredAlone self.scope.maker }
         ensures declared { IsDeclaredAlone result.0.scope.maker }
         ensures stays { Stays self.entry result.0 }
@@ -215,7 +217,7 @@ impl<'a> Asking<'a> {
             Err(stop) => return (asking, Err(stop)),
         };
         for place in 0..lines.len() {
-            let (asked, made) = asking.with_line(of, lines[place], count);
+            let (asked, made) = asking.with_line(of, lines[place], effort);
             asking = asked;
             let Ok(()) = made else {
                 return (asking, made);
@@ -229,15 +231,15 @@ impl<'a> Asking<'a> {
         self,
         special: ImplId,
         general: ImplId,
-        count: u16,
+        effort: Effort,
     ) -> (Asking<'a>, Result<(), Stop>)
-        requires some { 0 < count }
+        requires some { IsEffort effort }
         requires declared { IsDeclaredAlone self.scope.maker }
         ensures declared { IsDeclaredAlone result.0.scope.maker }
         ensures stays { Stays self.entry result.0 }
         ensures found { OnOk result.1 (AddsOfLine special general self.entry result.0) }
     {
-        let (mut asking, answer) = self.tested(special, general, count);
+        let (mut asking, answer) = self.tested(special, general, effort);
         let made = asking.print_test(special, answer);
         asking.forget_nodes();
         (asking, made)
@@ -404,17 +406,17 @@ impl<'a> Asking<'a> {
         self,
         first: ImplId,
         later: &[ImplId],
-        count: u16,
+        effort: Effort,
     ) -> (Asking<'a>, Result<(), Stop>)
-        requires some { 0 < count }
+        requires some { IsEffort effort }
         requires declared { IsDeclaredAlone self.scope.maker }
         ensures declared { IsDeclaredAlone result.0.scope.maker }
         ensures stays { Stays self.entry result.0 }
-        ensures found { OnOk result.1 (AddsOfPairs count first later.now (length later.now) self.entry result.0) }
+        ensures found { OnOk result.1 (AddsOfPairs effort first later.now (length later.now) self.entry result.0) }
     {
         let mut asking = self;
         for place in 0..later.len() {
-            let (asked, made) = asking.with_pair(first, later[place], count);
+            let (asked, made) = asking.with_pair(first, later[place], effort);
             asking = asked;
             let Ok(()) = made else {
                 return (asking, made);
@@ -424,14 +426,19 @@ impl<'a> Asking<'a> {
     }
 
     /// Adds what is found of the two impls.
-    fn with_pair(self, first: ImplId, second: ImplId, count: u16) -> (Asking<'a>, Result<(), Stop>)
-        requires some { 0 < count }
+    fn with_pair(
+        self,
+        first: ImplId,
+        second: ImplId,
+        effort: Effort,
+    ) -> (Asking<'a>, Result<(), Stop>)
+        requires some { IsEffort effort }
         requires declared { IsDeclaredAlone self.scope.maker }
         ensures declared { IsDeclaredAlone result.0.scope.maker }
         ensures stays { Stays self.entry result.0 }
-        ensures found { OnOk result.1 (AddsOfPair count first second self.entry result.0) }
+        ensures found { OnOk result.1 (AddsOfPair effort first second self.entry result.0) }
     {
-        let (mut asking, found) = self.compare(first, second, count);
+        let (mut asking, found) = self.compare(first, second, effort);
         let made = asking.print_pair(first, second, found);
         asking.forget_nodes();
         (asking, made)
@@ -548,14 +555,14 @@ impl<'a> Asking<'a> {
     }
 }
 
-/// In how many rounds, as `rounds` reads it, where nothing follows.
-pub(crate) fn rounds_alone<'a>(words: &mut Words<'a>) -> Result<u16, Fault<'a>>
-    ensures some { IfOk result (λ n. 0 < n) }
-    ensures named { IfOk result (λ n. n ≡ rounds_of_line words.old.rest.now) }
+/// How long goals are computed, as `read_effort` reads it, where nothing follows.
+pub(crate) fn read_effort_alone<'a>(words: &mut Words<'a>) -> Result<Effort, Fault<'a>>
+    ensures some { IfOk result (λ n. IsEffort n) }
+    ensures named { IfOk result (λ n. n ≡ effort_of_line words.old.rest.now) }
 {
-    let count = rounds(words)?;
+    let effort = read_effort(words)?;
     words.end()?;
-    Ok(count)
+    Ok(effort)
 }
 
 /// Whether the impl says that its trait holds.

@@ -5,8 +5,10 @@ ghost use Rattle.ir_trees.specs.Syntax.Words.{IsArgs};
 ghost use Rattle.overlaps.specs.declared.specializing.Specialization.{Specialization};
 ghost use Rattle.assembly_text.specs.Checking.{Stays};
 ghost use Rattle.assembly_text.specs.Specializing.{IsFoundOf, IsInstanceOr, IsInstanceUnless, IsInstanceUnlessApart, IsNotOneBy, IsNotOtherBy, IsNotSpecial, IsOneBy, IsOtherBy, IsPairStop, IsPrintableFound, IsSpecial, IsSpecialOfThem, NoneSpecializesAlone, is_declared_special};
+ghost use Rattle.candidate_rounds.specs.Table.Efforts.{IsEffort};
 
 use crate::asking::Asking;
+use candidate_rounds::rounds::effort::Effort;
 use ir_context::decl::context::Cx;
 use ir_trees::decl::contents::ImplId;
 use ir_trees::ir::stop::Stop;
@@ -57,26 +59,26 @@ fn as_said(cx: &Cx, special: ImplId, general: ImplId, by_line: bool) -> Option<(
 }
 
 impl<'a> Asking<'a> {
-    /// What is found of the two impls, in so many rounds for each where clause. A line by which one of them specialises the other one counts
+    /// What is found of the two impls, by that effort for each where clause. A line by which one of them specialises the other one counts
     /// where it is so.
     pub(crate) fn compare(
         self,
         first: ImplId,
         second: ImplId,
-        count: u16,
+        effort: Effort,
     ) -> (Asking<'a>, Result<Found, Stop>)
-        requires some { 0 < count }
+        requires some { IsEffort effort }
         ensures stays { Stays self.entry result.0 }
         ensures answer { result.0.answer ≡ self.entry.answer }
-        ensures found { IfOk result.1 (IsFoundOf self.entry.scope.maker self.entry.given count first second) }
+        ensures found { IfOk result.1 (IsFoundOf self.entry.scope.maker self.entry.given effort first second) }
         ensures printable { IfOk result.1 (IsPrintableFound result.0.scope.maker.trees) }
         ensures stopped { IfErr result.1 (IsPairStop self.entry.scope.maker self.entry.given) }
     {
-        let (asking, overlap) = self.overlapped(first, second, count);
+        let (asking, overlap) = self.overlapped(first, second, effort);
         match overlap {
-            Ok(Overlap::May(instance)) => asking.unless_apart(first, second, instance, count),
+            Ok(Overlap::May(instance)) => asking.unless_apart(first, second, instance, effort),
             Ok(Overlap::Allowed(Allowance::Specializes(_))) => {
-                asking.compare_declared(first, second, count)
+                asking.compare_declared(first, second, effort)
             }
             Ok(Overlap::Allowed(Allowance::Reservation)) => (asking, Ok(Found::Nothing)),
             Ok(Overlap::Allowed(Allowance::Marker)) => (asking, Ok(Found::Nothing)),
@@ -92,19 +94,19 @@ impl<'a> Asking<'a> {
         self,
         first: ImplId,
         second: ImplId,
-        count: u16,
+        effort: Effort,
     ) -> (Asking<'a>, Result<Found, Stop>)
-        requires some { 0 < count }
+        requires some { IsEffort effort }
         ensures stays { Stays self.entry result.0 }
         ensures answer { result.0.answer ≡ self.entry.answer }
-        ensures found { IfOk result.1 (IsFoundOf self.entry.scope.maker self.entry.given count first second) }
+        ensures found { IfOk result.1 (IsFoundOf self.entry.scope.maker self.entry.given effort first second) }
         ensures printable { IfOk result.1 (IsPrintableFound result.0.scope.maker.trees) }
         ensures stopped { IfErr result.1 (IsPairStop self.entry.scope.maker self.entry.given) }
     {
-        let (asking, special) = self.special_one(first, second, true, count);
+        let (asking, special) = self.special_one(first, second, true, effort);
         match special {
             Ok(Some(_)) => (asking, Ok(Found::Nothing)),
-            Ok(None) => asking.compare_anyway(first, second, count),
+            Ok(None) => asking.compare_anyway(first, second, effort),
             Err(stop) => (asking, Err(stop)),
         }
     }
@@ -114,18 +116,18 @@ impl<'a> Asking<'a> {
         self,
         first: ImplId,
         second: ImplId,
-        count: u16,
+        effort: Effort,
     ) -> (Asking<'a>, Result<Found, Stop>)
-        requires some { 0 < count }
+        requires some { IsEffort effort }
         ensures stays { Stays self.entry result.0 }
         ensures answer { result.0.answer ≡ self.entry.answer }
-        ensures found { IfOk result.1 (IsFoundOf self.entry.scope.maker self.entry.given count first second) }
+        ensures found { IfOk result.1 (IsFoundOf self.entry.scope.maker self.entry.given effort first second) }
         ensures printable { IfOk result.1 (IsPrintableFound result.0.scope.maker.trees) }
         ensures stopped { IfErr result.1 (IsPairStop self.entry.scope.maker self.entry.given) }
     {
-        let (asking, overlap) = self.overlapped_anyway(first, second, count);
+        let (asking, overlap) = self.overlapped_anyway(first, second, effort);
         match overlap {
-            Ok(Overlap::May(instance)) => asking.unless_apart(first, second, instance, count),
+            Ok(Overlap::May(instance)) => asking.unless_apart(first, second, instance, effort),
             Ok(Overlap::Allowed(_)) => (asking, Ok(Found::Nothing)),
             Ok(Overlap::NoCommonTrait) => (asking, Ok(Found::Nothing)),
             Ok(Overlap::DisjointHeaders) => (asking, Ok(Found::Nothing)),
@@ -141,20 +143,20 @@ impl<'a> Asking<'a> {
         first: ImplId,
         second: ImplId,
         instance: CommonInstance,
-        count: u16,
+        effort: Effort,
     ) -> (Asking<'a>, Result<Found, Stop>)
         requires printable { IsArgs self.scope.maker.trees instance.trait_ref.args }
-        requires some { 0 < count }
+        requires some { IsEffort effort }
         ensures stays { Stays self.entry result.0 }
         ensures answer { result.0.answer ≡ self.entry.answer }
         ensures found { IfOk result.1 (IsInstanceUnlessApart self.entry.scope.maker self.entry.given first second instance) }
         ensures printable { IfOk result.1 (IsPrintableFound result.0.scope.maker.trees) }
         ensures stopped { IfErr result.1 (IsPairStop self.entry.scope.maker self.entry.given) }
     {
-        let (asking, apart) = self.kept_apart(first, second, count);
+        let (asking, apart) = self.kept_apart(first, second, effort);
         match apart {
             Ok(true) => (asking, Ok(Found::Nothing)),
-            Ok(false) => asking.unless_negated(first, second, instance, count),
+            Ok(false) => asking.unless_negated(first, second, instance, effort),
             Err(stop) => (asking, Err(stop)),
         }
     }
@@ -166,10 +168,10 @@ impl<'a> Asking<'a> {
         first: ImplId,
         second: ImplId,
         instance: CommonInstance,
-        count: u16,
+        effort: Effort,
     ) -> (Asking<'a>, Result<Found, Stop>)
         requires printable { IsArgs self.scope.maker.trees instance.trait_ref.args }
-        requires some { 0 < count }
+        requires some { IsEffort effort }
         ensures stays { Stays self.entry result.0 }
         ensures answer { result.0.answer ≡ self.entry.answer }
         ensures found { IfOk result.1 (IsInstanceUnless self.entry.scope.maker self.entry.given first second instance) }
@@ -177,12 +179,12 @@ impl<'a> Asking<'a> {
         ensures stopped { IfErr result.1 (IsPairStop self.entry.scope.maker self.entry.given) }
     {
         if !self.given.negative {
-            return self.unless_special(first, second, instance, count);
+            return self.unless_special(first, second, instance, effort);
         }
-        let (asking, clause) = self.negated(first, second, count);
+        let (asking, clause) = self.negated(first, second, effort);
         match clause {
             Ok(Some(_)) => (asking, Ok(Found::Nothing)),
-            Ok(None) => asking.unless_special(first, second, instance, count),
+            Ok(None) => asking.unless_special(first, second, instance, effort),
             Err(stop) => (asking, Err(stop)),
         }
     }
@@ -193,10 +195,10 @@ impl<'a> Asking<'a> {
         first: ImplId,
         second: ImplId,
         instance: CommonInstance,
-        count: u16,
+        effort: Effort,
     ) -> (Asking<'a>, Result<Found, Stop>)
         requires printable { IsArgs self.scope.maker.trees instance.trait_ref.args }
-        requires some { 0 < count }
+        requires some { IsEffort effort }
         ensures stays { Stays self.entry result.0 }
         ensures answer { result.0.answer ≡ self.entry.answer }
         ensures found { IfOk result.1 (IsInstanceOr self.entry.scope.maker self.entry.given first second instance) }
@@ -206,7 +208,7 @@ impl<'a> Asking<'a> {
         if !self.given.specialization {
             return (self, Ok(Found::Instance(instance)));
         }
-        let (asking, special) = self.special_one(first, second, false, count);
+        let (asking, special) = self.special_one(first, second, false, effort);
         match special {
             Ok(Some((special, general))) => (asking, Ok(Found::Specializes(special, general))),
             Ok(None) => (asking, Ok(Found::Instance(instance))),
@@ -220,19 +222,19 @@ impl<'a> Asking<'a> {
         first: ImplId,
         second: ImplId,
         by_line: bool,
-        count: u16,
+        effort: Effort,
     ) -> (Asking<'a>, Result<Option<(ImplId, ImplId)>, Stop>)
-        requires some { 0 < count }
+        requires some { IsEffort effort }
         ensures stays { Stays self.entry result.0 }
         ensures answer { result.0.answer ≡ self.entry.answer }
         ensures special { IfOk result.1 (λ o. IfSome o (λ p. IsSpecialOfThem self.entry.scope.maker self.entry.given by_line first second p.0 p.1)) }
         ensures none { IfOk result.1 (λ o. o ≡ None → NoneSpecializesAlone self.entry.scope.maker self.entry.given by_line first second) }
         ensures stopped { IfErr result.1 (IsPairStop self.entry.scope.maker self.entry.given) }
     {
-        let (asking, is_first) = self.is_special(first, second, count);
+        let (asking, is_first) = self.is_special(first, second, effort);
         match is_first {
-            Ok(true) => asking.unless_other(first, second, by_line, count),
-            Ok(false) => asking.if_other(first, second, by_line, count),
+            Ok(true) => asking.unless_other(first, second, by_line, effort),
+            Ok(false) => asking.if_other(first, second, by_line, effort),
             Err(stop) => (asking, Err(stop)),
         }
     }
@@ -243,16 +245,16 @@ impl<'a> Asking<'a> {
         first: ImplId,
         second: ImplId,
         by_line: bool,
-        count: u16,
+        effort: Effort,
     ) -> (Asking<'a>, Result<Option<(ImplId, ImplId)>, Stop>)
-        requires some { 0 < count }
+        requires some { IsEffort effort }
         ensures stays { Stays self.entry result.0 }
         ensures answer { result.0.answer ≡ self.entry.answer }
         ensures special { IfOk result.1 (λ o. IfSome o (IsOneBy self.entry.scope.maker self.entry.given by_line first second)) }
         ensures none { IfOk result.1 (λ o. o ≡ None → IsNotOneBy self.entry.scope.maker self.entry.given by_line first second) }
         ensures stopped { IfErr result.1 (IsPairStop self.entry.scope.maker self.entry.given) }
     {
-        let (asking, is_second) = self.is_special(second, first, count);
+        let (asking, is_second) = self.is_special(second, first, effort);
         match is_second {
             Ok(false) => {
                 let found = as_said(&asking.scope.maker, first, second, by_line);
@@ -269,16 +271,16 @@ impl<'a> Asking<'a> {
         first: ImplId,
         second: ImplId,
         by_line: bool,
-        count: u16,
+        effort: Effort,
     ) -> (Asking<'a>, Result<Option<(ImplId, ImplId)>, Stop>)
-        requires some { 0 < count }
+        requires some { IsEffort effort }
         ensures stays { Stays self.entry result.0 }
         ensures answer { result.0.answer ≡ self.entry.answer }
         ensures special { IfOk result.1 (λ o. IfSome o (IsOtherBy self.entry.scope.maker self.entry.given by_line first second)) }
         ensures none { IfOk result.1 (λ o. o ≡ None → IsNotOtherBy self.entry.scope.maker self.entry.given by_line first second) }
         ensures stopped { IfErr result.1 (IsPairStop self.entry.scope.maker self.entry.given) }
     {
-        let (asking, is_second) = self.is_special(second, first, count);
+        let (asking, is_second) = self.is_special(second, first, effort);
         match is_second {
             Ok(true) => {
                 let found = as_said(&asking.scope.maker, second, first, by_line);
@@ -294,16 +296,16 @@ impl<'a> Asking<'a> {
         self,
         special: ImplId,
         general: ImplId,
-        count: u16,
+        effort: Effort,
     ) -> (Asking<'a>, Result<bool, Stop>)
-        requires some { 0 < count }
+        requires some { IsEffort effort }
         ensures stays { Stays self.entry result.0 }
         ensures answer { result.0.answer ≡ self.entry.answer }
         ensures special { IfOk result.1 (λ b. b ≡ true → IsSpecial self.entry.scope.maker self.entry.given special general) }
         ensures other { IfOk result.1 (λ b. b ≡ false → IsNotSpecial self.entry.scope.maker self.entry.given special general) }
         ensures stopped { IfErr result.1 (IsPairStop self.entry.scope.maker self.entry.given) }
     {
-        let (asking, answer) = self.tested(special, general, count);
+        let (asking, answer) = self.tested(special, general, effort);
         match answer {
             Ok(answer) => (asking, Ok(is_positive(answer))),
             Err(stop) => (asking, Err(stop)),

@@ -6,6 +6,7 @@ ghost use Rattle.ir_trees.specs.Syntax.Words.{ClauseListFits};
 ghost use Rattle.candidate_assembly.specs.Goals.KindShown.{IsGoal, trait_kind};
 ghost use Rattle.assembly_notation.specs.Given.{GivenFits};
 ghost use Rattle.assembly_text.specs.Solving.{IsReadGoal, IsSolvedBefore};
+ghost use Rattle.candidate_rounds.specs.Table.Efforts.{IsEffort};
 
 use crate::explaining::is_final;
 use crate::solving::{context_of, environment, evaluator, run, solve};
@@ -14,6 +15,7 @@ use candidate_eval::eval::certainty::Certainty;
 use candidate_eval::eval::response::Candidate;
 use candidate_eval::eval::source::CandidateSource;
 use candidate_rounds::rounds::Rounds;
+use candidate_rounds::rounds::effort::Effort;
 use candidate_rounds::rounds::goals::Verdict;
 use ir_context::decl::context::Cx;
 use ir_trees::ir::kinds::{Clause, ParamEnv, TraitPredicate};
@@ -73,16 +75,21 @@ fn listed_last(
     rounds: &mut Rounds,
     env: ParamEnv,
     predicate: TraitPredicate,
-    count: u16,
+    effort: Effort,
 ) -> Result<Vec<Listed>, Stop>
-    requires some { 0 < count }
+    requires some { IsEffort effort }
     requires goal { IsGoal trait_kind rounds.old.context env predicate }
     ensures { Grows rounds.old.context rounds.new.context }
 {
-    if count == 1 {
-        return list_here(alloc, rounds, env, predicate);
+    match effort {
+        Effort::Rounds(1) => {}
+        Effort::Rounds(count) => {
+            run(alloc, rounds, env, predicate, Effort::Rounds(count - 1))?;
+        }
+        Effort::AsNeeded => {
+            run(alloc, rounds, env, predicate, effort)?;
+        }
     }
-    run(alloc, rounds, env, predicate, count - 1)?;
     list_here(alloc, rounds, env, predicate)
 }
 
@@ -92,14 +99,14 @@ fn listed_finally(
     rounds: &mut Rounds,
     env: ParamEnv,
     predicate: TraitPredicate,
-    count: u16,
+    effort: Effort,
 ) -> Result<Vec<Listed>, Stop>
     requires { IsGoal trait_kind rounds.old.context env predicate }
     ensures { Grows rounds.old.context rounds.new.context }
 {
-    for _before in 1..count {
+    for _before in 1..effort.most_rounds() {
         let list = list_here(alloc, rounds, env, predicate)?;
-        let verdict = run(alloc, rounds, env, predicate, 1)?;
+        let verdict = run(alloc, rounds, env, predicate, Effort::Rounds(1))?;
         if is_final(verdict.as_ref()) {
             return Ok(list);
         }
@@ -113,17 +120,17 @@ fn list_in(
     rounds: &mut Rounds,
     clauses: &[Clause],
     predicate: TraitPredicate,
-    count: u16,
+    effort: Effort,
     is_final: bool,
 ) -> Result<Vec<Listed>, Stop>
-    requires some { 0 < count }
+    requires some { IsEffort effort }
     requires clauses { ClauseListFits rounds.old.context.trees clauses.now }
     requires read { IsReadGoal rounds.old.context predicate }
     ensures { Grows rounds.old.context rounds.new.context }
 {
     match environment(rounds, clauses, predicate)? {
-        Some(env) if is_final => listed_finally(alloc, rounds, env, predicate, count),
-        Some(env) => listed_last(alloc, rounds, env, predicate, count),
+        Some(env) if is_final => listed_finally(alloc, rounds, env, predicate, effort),
+        Some(env) => listed_last(alloc, rounds, env, predicate, effort),
         None => Ok(Vec::new(alloc)),
     }
 }
@@ -134,10 +141,10 @@ fn list(
     cx: Cx,
     given: &Given,
     predicate: TraitPredicate,
-    count: u16,
+    effort: Effort,
     is_final: bool,
 ) -> (Cx, Result<Vec<Listed>, Stop>)
-    requires some { 0 < count }
+    requires some { IsEffort effort }
     requires given { GivenFits cx.trees given.now }
     requires read { IsReadGoal cx predicate }
     ensures { Grows cx result.0 }
@@ -145,7 +152,7 @@ fn list(
     match evaluator(alloc, cx, given) {
         Ok(mut rounds) => {
             let clauses = given.clauses.as_slice();
-            let list = list_in(alloc, &mut rounds, clauses, predicate, count, is_final);
+            let list = list_in(alloc, &mut rounds, clauses, predicate, effort, is_final);
             (context_of(rounds), list)
         }
         Err((cx, stop)) => (cx, Err(stop)),
@@ -159,21 +166,21 @@ pub fn consider(
     cx: Cx,
     given: &Given,
     predicate: TraitPredicate,
-    count: u16,
+    effort: Effort,
 ) -> (Cx, Result<Considered, Stop>)
-    requires some { 0 < count }
+    requires some { IsEffort effort }
     requires given { GivenFits cx.trees given.now }
     requires read { IsReadGoal cx predicate }
     ensures grows { Grows cx result.0 }
-    ensures comes { IfOk result.1 (λ x. IsSolvedBefore cx given.now predicate count result.0 x.verdict) }
+    ensures comes { IfOk result.1 (λ x. IsSolvedBefore cx given.now predicate effort result.0 x.verdict) }
 {
-    let (cx, verdict) = solve(alloc, cx, given, predicate, count);
+    let (cx, verdict) = solve(alloc, cx, given, predicate, effort);
     let verdict = match verdict {
         Ok(verdict) => verdict,
         Err(stop) => return (cx, Err(stop)),
     };
     let is_final = is_final(verdict.as_ref());
-    let (cx, list) = list(alloc, cx, given, predicate, count, is_final);
+    let (cx, list) = list(alloc, cx, given, predicate, effort, is_final);
     match list {
         Ok(candidates) => (
             cx,

@@ -10,6 +10,7 @@ ghost use Rattle.candidate_rounds.specs.Table.Goals.{IsTraitGoal, IsVerdict};
 ghost use Rattle.assembly_text.specs.Explaining.{AreReasons, IsAsked};
 ghost use Rattle.assembly_notation.specs.Given.{GivenFits};
 ghost use Rattle.assembly_text.specs.Solving.{ComesBefore, IsReadGoal, IsSolvedBefore};
+ghost use Rattle.candidate_rounds.specs.Table.Efforts.{IsEffort};
 
 use crate::openness::{Openness, look_at_open};
 use crate::printing::words_of_verdict;
@@ -17,6 +18,7 @@ use crate::solving::{context_of, environment, evaluator, run};
 use assembly_notation::given::Given;
 use candidate_rounds::rounds::Rounds;
 use candidate_rounds::rounds::derivation::DerivationTree;
+use candidate_rounds::rounds::effort::Effort;
 use candidate_rounds::rounds::goals::{GoalKey, Verdict};
 use ir_context::decl::context::Cx;
 use ir_trees::ir::kinds::{Args, Clause, ParamEnv, TraitPredicate};
@@ -149,15 +151,15 @@ fn rounds_of_goals(
     rounds: &mut Rounds,
     env: ParamEnv,
     predicate: TraitPredicate,
-    count: u16,
+    effort: Effort,
     goals: &[AskedGoal],
 ) -> Result<Vec<u16>, Stop>
     requires { IsGoal trait_kind rounds.old.context env predicate }
     ensures { Grows rounds.old.context rounds.new.context }
 {
     let mut since = Vec::new(alloc);
-    for before in 0..count {
-        run(alloc, rounds, env, predicate, 1)?;
+    for before in 0..effort.most_rounds() {
+        run(alloc, rounds, env, predicate, Effort::Rounds(1))?;
         note_all(rounds, &mut since, before + 1)?;
         if are_noted(goals, since.as_slice()) {
             return Ok(since);
@@ -172,7 +174,7 @@ fn look_back_in(
     rounds: &mut Rounds,
     clauses: &[Clause],
     predicate: TraitPredicate,
-    count: u16,
+    effort: Effort,
     goals: &[AskedGoal],
 ) -> Result<Vec<u16>, Stop>
     requires clauses { ClauseListFits rounds.old.context.trees clauses.now }
@@ -180,7 +182,7 @@ fn look_back_in(
     ensures { Grows rounds.old.context rounds.new.context }
 {
     match environment(rounds, clauses, predicate)? {
-        Some(env) => rounds_of_goals(alloc, rounds, env, predicate, count, goals),
+        Some(env) => rounds_of_goals(alloc, rounds, env, predicate, effort, goals),
         None => Ok(Vec::new(alloc)),
     }
 }
@@ -191,7 +193,7 @@ fn look_back(
     cx: Cx,
     given: &Given,
     predicate: TraitPredicate,
-    count: u16,
+    effort: Effort,
     goals: &[AskedGoal],
 ) -> (Cx, Result<Vec<u16>, Stop>)
     requires given { GivenFits cx.trees given.now }
@@ -201,7 +203,7 @@ fn look_back(
     match evaluator(alloc, cx, given) {
         Ok(mut rounds) => {
             let clauses = given.clauses.as_slice();
-            let since = look_back_in(alloc, &mut rounds, clauses, predicate, count, goals);
+            let since = look_back_in(alloc, &mut rounds, clauses, predicate, effort, goals);
             (context_of(rounds), since)
         }
         Err((cx, stop)) => (cx, Err(stop)),
@@ -231,13 +233,13 @@ fn ask_why(
     rounds: &mut Rounds,
     clauses: &[Clause],
     predicate: TraitPredicate,
-    count: u16,
+    effort: Effort,
 ) -> Result<Explained, Stop>
-    requires some { 0 < count }
+    requires some { IsEffort effort }
     requires clauses { ClauseListFits rounds.old.context.trees clauses.now }
     requires read { IsReadGoal rounds.old.context predicate }
     ensures grows { Grows rounds.old.context rounds.new.context }
-    ensures comes { IfOk result (λ e. ComesBefore rounds.old rounds.new clauses.now predicate count e.verdict) }
+    ensures comes { IfOk result (λ e. ComesBefore rounds.old rounds.new clauses.now predicate effort e.verdict) }
     ensures sorts { IfOk result (λ e. AreReasons rounds.new.context.trees e.reasons) }
 {
     let Some(env) = environment(rounds, clauses, predicate)? else {
@@ -246,7 +248,7 @@ fn ask_why(
             reasons: Reasons::Goals(Vec::new(alloc), Vec::new(alloc)),
         });
     };
-    let verdict = run(alloc, rounds, env, predicate, count)?;
+    let verdict = run(alloc, rounds, env, predicate, effort)?;
     let reasons = find_reasons(alloc, rounds, env, predicate)?;
     Ok(Explained { verdict, reasons })
 }
@@ -257,19 +259,19 @@ fn explain_run(
     cx: Cx,
     given: &Given,
     predicate: TraitPredicate,
-    count: u16,
+    effort: Effort,
 ) -> (Cx, Result<Explained, Stop>)
-    requires some { 0 < count }
+    requires some { IsEffort effort }
     requires given { GivenFits cx.trees given.now }
     requires read { IsReadGoal cx predicate }
     ensures grows { Grows cx result.0 }
-    ensures comes { IfOk result.1 (λ e. IsSolvedBefore cx given.now predicate count result.0 e.verdict) }
+    ensures comes { IfOk result.1 (λ e. IsSolvedBefore cx given.now predicate effort result.0 e.verdict) }
     ensures sorts { IfOk result.1 (λ e. AreReasons result.0.trees e.reasons) }
 {
     match evaluator(alloc, cx, given) {
         Ok(mut rounds) => {
             let clauses = given.clauses.as_slice();
-            let explained = ask_why(alloc, &mut rounds, clauses, predicate, count);
+            let explained = ask_why(alloc, &mut rounds, clauses, predicate, effort);
             (context_of(rounds), explained)
         }
         Err((cx, stop)) => (cx, Err(stop)),
@@ -282,7 +284,7 @@ fn with_rounds(
     cx: Cx,
     given: &Given,
     predicate: TraitPredicate,
-    count: u16,
+    effort: Effort,
     explained: Explained,
 ) -> (Cx, Result<Explained, Stop>)
     requires given { GivenFits cx.trees given.now }
@@ -300,7 +302,7 @@ fn with_rounds(
             return (cx, Ok(Explained { verdict, reasons }));
         }
     };
-    let (cx, since) = look_back(alloc, cx, given, predicate, count, goals.as_slice());
+    let (cx, since) = look_back(alloc, cx, given, predicate, effort, goals.as_slice());
     match since {
         Ok(since) => {
             let reasons = Reasons::Goals(goals, since);
@@ -316,18 +318,18 @@ fn explain_by_rounds(
     cx: Cx,
     given: &Given,
     predicate: TraitPredicate,
-    count: u16,
+    effort: Effort,
 ) -> (Cx, Result<Explained, Stop>)
-    requires some { 0 < count }
+    requires some { IsEffort effort }
     requires given { GivenFits cx.trees given.now }
     requires read { IsReadGoal cx predicate }
     ensures grows { Grows cx result.0 }
-    ensures comes { IfOk result.1 (λ e. IsSolvedBefore cx given.now predicate count result.0 e.verdict) }
+    ensures comes { IfOk result.1 (λ e. IsSolvedBefore cx given.now predicate effort result.0 e.verdict) }
     ensures sorts { IfOk result.1 (λ e. AreReasons result.0.trees e.reasons) }
 {
-    let (cx, explained) = explain_run(alloc, cx, given, predicate, count);
+    let (cx, explained) = explain_run(alloc, cx, given, predicate, effort);
     match explained {
-        Ok(explained) => with_rounds(alloc, cx, given, predicate, count, explained),
+        Ok(explained) => with_rounds(alloc, cx, given, predicate, effort, explained),
         Err(stop) => (cx, Err(stop)),
     }
 }
@@ -374,17 +376,17 @@ pub fn explain(
     cx: Cx,
     given: &Given,
     predicate: TraitPredicate,
-    count: u16,
+    effort: Effort,
     tells_open: bool,
 ) -> (Cx, Result<Explained, Stop>)
-    requires some { 0 < count }
+    requires some { IsEffort effort }
     requires given { GivenFits cx.trees given.now }
     requires read { IsReadGoal cx predicate }
     ensures grows { Grows cx result.0 }
-    ensures comes { IfOk result.1 (λ e. IsSolvedBefore cx given.now predicate count result.0 e.verdict) }
+    ensures comes { IfOk result.1 (λ e. IsSolvedBefore cx given.now predicate effort result.0 e.verdict) }
     ensures sorts { IfOk result.1 (λ e. AreReasons result.0.trees e.reasons) }
 {
-    let (cx, explained) = explain_by_rounds(alloc, cx, given, predicate, count);
+    let (cx, explained) = explain_by_rounds(alloc, cx, given, predicate, effort);
     match explained {
         Ok(explained) => with_open_goals(
             alloc,

@@ -4,11 +4,13 @@ ghost use Rattle.std.specs.Prelude.{◌≡◌, ◌<◌, IfOk, OnOk, string_bytes
 ghost use Rattle.assembly_text.specs.Checking.{IsDeclaredAlone, Stays};
 ghost use Rattle.assembly_text.specs.Paired.{HasImplsWithAliases};
 ghost use Rattle.assembly_text.specs.Reasons.{AddsMore};
+ghost use Rattle.candidate_rounds.specs.Table.Efforts.{IsEffort};
 
 use crate::asking::Asking;
 use crate::checking::{ImplsWithAliases, later_impls, number_of};
 use crate::comparing::Found;
 use crate::telling::name_of_impl;
+use candidate_rounds::rounds::effort::Effort;
 use ir_trees::decl::contents::ImplId;
 use ir_trees::ir::stop::Stop;
 
@@ -21,15 +23,15 @@ pub(crate) struct OpenPair {
 
 impl<'a> Asking<'a> {
     /// Adds why impls may overlap, pair by pair. Each pair begins with a line `why NAME NAME:`, and what follows are the lines of that query.
-    pub(crate) fn add_reasons_of_pairs(mut self, count: u16) -> (Asking<'a>, Result<(), Stop>)
-        requires some { 0 < count }
+    pub(crate) fn add_reasons_of_pairs(mut self, effort: Effort) -> (Asking<'a>, Result<(), Stop>)
+        requires some { IsEffort effort }
         ensures { OnOk result.1 (AddsMore (string_bytes self.entry.answer) (string_bytes result.0.answer)) }
     {
         self.forget_nodes();
         let mut pairs = Vec::new(self.scope.alloc);
-        let (asking, made) = self.push_open_pairs(count, &mut pairs);
+        let (asking, made) = self.push_open_pairs(effort, &mut pairs);
         match made {
-            Ok(()) => asking.add_reasons_of_each(pairs.as_slice(), count),
+            Ok(()) => asking.add_reasons_of_each(pairs.as_slice(), effort),
             Err(stop) => (asking, Err(stop)),
         }
     }
@@ -37,10 +39,10 @@ impl<'a> Asking<'a> {
     /// Adds to the pairs all that may overlap but don't certainly, in the order in which `check` finds them. Nothing is added to the answer.
     fn push_open_pairs(
         self,
-        count: u16,
+        effort: Effort,
         pairs: &mut Vec<OpenPair>,
     ) -> (Asking<'a>, Result<(), Stop>)
-        requires some { 0 < count }
+        requires some { IsEffort effort }
         requires declared { IsDeclaredAlone self.scope.maker }
         ensures answer { result.0.answer ≡ self.entry.answer }
     {
@@ -55,7 +57,7 @@ impl<'a> Asking<'a> {
             Err(stop) => return (asking, Err(stop)),
         };
         for number in 0..impls {
-            let (asked, made) = asking.push_pairs_of(ImplId(number), &with_aliases, count, pairs);
+            let (asked, made) = asking.push_pairs_of(ImplId(number), &with_aliases, effort, pairs);
             asking = asked;
             let Ok(()) = made else {
                 return (asking, made);
@@ -69,10 +71,10 @@ impl<'a> Asking<'a> {
         mut self,
         of: ImplId,
         with_aliases: &ImplsWithAliases,
-        count: u16,
+        effort: Effort,
         pairs: &mut Vec<OpenPair>,
     ) -> (Asking<'a>, Result<(), Stop>)
-        requires some { 0 < count }
+        requires some { IsEffort effort }
         requires declared { IsDeclaredAlone self.scope.maker }
         requires aliases { HasImplsWithAliases self.scope.maker with_aliases.now }
         ensures declared { IsDeclaredAlone result.0.scope.maker }
@@ -91,7 +93,7 @@ impl<'a> Asking<'a> {
                 first: of,
                 second: later[place],
             };
-            let (asked, made) = asking.push_if_open(pair, count, pairs);
+            let (asked, made) = asking.push_if_open(pair, effort, pairs);
             asking = asked;
             let Ok(()) = made else {
                 return (asking, made);
@@ -125,16 +127,16 @@ impl<'a> Asking<'a> {
     fn push_if_open(
         self,
         pair: OpenPair,
-        count: u16,
+        effort: Effort,
         pairs: &mut Vec<OpenPair>,
     ) -> (Asking<'a>, Result<(), Stop>)
-        requires some { 0 < count }
+        requires some { IsEffort effort }
         requires declared { IsDeclaredAlone self.scope.maker }
         ensures declared { IsDeclaredAlone result.0.scope.maker }
         ensures stays { Stays self.entry result.0 }
         ensures answer { result.0.answer ≡ self.entry.answer }
     {
-        let (mut asking, found) = self.compare(pair.first, pair.second, count);
+        let (mut asking, found) = self.compare(pair.first, pair.second, effort);
         asking.forget_nodes();
         let made = match found {
             Ok(Found::Instance(instance)) if !instance.is_certain => pushed(pairs, pair),
@@ -145,13 +147,17 @@ impl<'a> Asking<'a> {
     }
 
     /// Adds why the impls of each of the pairs may overlap.
-    fn add_reasons_of_each(self, pairs: &[OpenPair], count: u16) -> (Asking<'a>, Result<(), Stop>)
-        requires some { 0 < count }
+    fn add_reasons_of_each(
+        self,
+        pairs: &[OpenPair],
+        effort: Effort,
+    ) -> (Asking<'a>, Result<(), Stop>)
+        requires some { IsEffort effort }
         ensures { OnOk result.1 (AddsMore (string_bytes self.entry.answer) (string_bytes result.0.answer)) }
     {
         let mut asking = self;
         for place in 0..pairs.len() {
-            let (asked, made) = asking.add_reasons_of_pair(pairs[place], count);
+            let (asked, made) = asking.add_reasons_of_pair(pairs[place], effort);
             asking = asked;
             let Ok(()) = made else {
                 return (asking, made);
@@ -161,15 +167,15 @@ impl<'a> Asking<'a> {
     }
 
     /// Adds why the impls of the pair may overlap, behind a line that names them.
-    fn add_reasons_of_pair(self, pair: OpenPair, count: u16) -> (Asking<'a>, Result<(), Stop>)
-        requires some { 0 < count }
+    fn add_reasons_of_pair(self, pair: OpenPair, effort: Effort) -> (Asking<'a>, Result<(), Stop>)
+        requires some { IsEffort effort }
         ensures { OnOk result.1 (AddsMore (string_bytes self.entry.answer) (string_bytes result.0.answer)) }
     {
         let mut asking = self;
         asking.forget_nodes();
         let made = asking.print_heading(pair);
         match made {
-            Ok(()) => asking.add_reasons(pair.first, pair.second, count),
+            Ok(()) => asking.add_reasons(pair.first, pair.second, effort),
             Err(stop) => (asking, Err(stop)),
         }
     }

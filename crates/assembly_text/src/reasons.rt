@@ -7,8 +7,9 @@ ghost use Rattle.ir_trees.specs.Syntax.Words.{IsArgs, IsClause};
 ghost use Rattle.assembly_notation.specs.Given.{GivenFits};
 ghost use Rattle.assembly_text.specs.Asking.{declared_part};
 ghost use Rattle.assembly_text.specs.Reasons.{AddsMore, AddsOverlapAndMore, AddsSomeOverlapAndMore, AreReasoned};
+ghost use Rattle.candidate_rounds.specs.Table.Efforts.{IsEffort};
 
-use crate::asking::{Asking, rounds};
+use crate::asking::{Asking, read_effort};
 use crate::explaining::{AskedGoal, asked_goals};
 use crate::refusals::print_serving;
 use crate::solving::{context_of, open_evaluator};
@@ -20,6 +21,7 @@ use assembly_notation::words::Words;
 use candidate_eval::coherence::Conflict;
 use candidate_eval::eval::clauses::predicate_in;
 use candidate_rounds::rounds::Rounds;
+use candidate_rounds::rounds::effort::Effort;
 use candidate_rounds::rounds::normalizing::canonical_args;
 use ir_context::decl::context::Cx;
 use ir_context::decl::make::Build;
@@ -65,13 +67,13 @@ fn find_open(
     rounds: &mut Rounds,
     first: ImplId,
     second: ImplId,
-    count: u16,
+    effort: Effort,
 ) -> Result<Reasoned, Stop>
-    requires some { 0 < count }
+    requires some { IsEffort effort }
     ensures grows { Grows rounds.old.context rounds.new.context }
     ensures sorts { IfOk result (AreReasoned rounds.new.context.trees) }
 {
-    let clauses = open_clauses(alloc, rounds, first, second, count)?;
+    let clauses = open_clauses(alloc, rounds, first, second, effort)?;
     let goals = asked_goals(alloc, rounds)?;
     Ok(Reasoned { clauses, goals })
 }
@@ -84,16 +86,16 @@ fn ask_reasoned(
     given: &Given,
     first: ImplId,
     second: ImplId,
-    count: u16,
+    effort: Effort,
 ) -> (Cx, Result<Reasoned, Stop>)
-    requires some { 0 < count }
+    requires some { IsEffort effort }
     requires given { GivenFits cx.trees given.now }
     ensures grows { Grows cx result.0 }
     ensures sorts { IfOk result.1 (AreReasoned result.0.trees) }
 {
     match open_evaluator(alloc, cx, given) {
         Ok(mut rounds) => {
-            let reasoned = find_open(alloc, &mut rounds, first, second, count);
+            let reasoned = find_open(alloc, &mut rounds, first, second, effort);
             (context_of(rounds), reasoned)
         }
         Err((cx, stop)) => (cx, Err(stop)),
@@ -103,7 +105,7 @@ fn ask_reasoned(
 impl<'a> Asking<'a> {
     /// Whether the line asks about impls: the first word behind the rounds is the name of one.
     pub(crate) fn names_impl<'b>(&self, mut words: Words<'b>) -> bool {
-        if rounds(&mut words).is_err() {
+        if read_effort(&mut words).is_err() {
             return false;
         }
         let named: Result<ImplId, Fault<'b>> = self.scope.names.next_named(&mut words);
@@ -119,8 +121,8 @@ impl<'a> Asking<'a> {
     {
         self.forget();
         match self.two_impls(&mut words) {
-            Ok((count, first, second)) => {
-                let (asking, made) = self.overlap_with_reasons(first, second, count);
+            Ok((effort, first, second)) => {
+                let (asking, made) = self.overlap_with_reasons(first, second, effort);
                 (asking, Ok(made))
             }
             Err(fault) => (self, Err(fault)),
@@ -132,14 +134,14 @@ impl<'a> Asking<'a> {
         self,
         first: ImplId,
         second: ImplId,
-        count: u16,
+        effort: Effort,
     ) -> (Asking<'a>, Result<(), Stop>)
-        requires some { 0 < count }
-        ensures { OnOk result.1 (AddsOverlapAndMore self.entry.scope.maker self.entry.given first second count (string_bytes self.entry.answer) (string_bytes result.0.answer)) }
+        requires some { IsEffort effort }
+        ensures { OnOk result.1 (AddsOverlapAndMore self.entry.scope.maker self.entry.given first second effort (string_bytes self.entry.answer) (string_bytes result.0.answer)) }
     {
-        let (asking, made) = self.answered_with_overlap(first, second, count);
+        let (asking, made) = self.answered_with_overlap(first, second, effort);
         match made {
-            Ok(()) => asking.add_reasons(first, second, count),
+            Ok(()) => asking.add_reasons(first, second, effort),
             Err(stop) => (asking, Err(stop)),
         }
     }
@@ -149,13 +151,13 @@ impl<'a> Asking<'a> {
         self,
         first: ImplId,
         second: ImplId,
-        count: u16,
+        effort: Effort,
     ) -> (Asking<'a>, Result<(), Stop>)
-        requires some { 0 < count }
+        requires some { IsEffort effort }
         ensures { OnOk result.1 (AddsMore (string_bytes self.entry.answer) (string_bytes result.0.answer)) }
     {
-        let (asking, reason) = self.reason_of(first, second, count);
-        let (mut asking, reasoned) = asking.reasoned(first, second, count);
+        let (asking, reason) = self.reason_of(first, second, effort);
+        let (mut asking, reasoned) = asking.reasoned(first, second, effort);
         let made = asking.print_reason(reason, reasoned);
         (asking, made)
     }
@@ -165,12 +167,12 @@ impl<'a> Asking<'a> {
         self,
         first: ImplId,
         second: ImplId,
-        count: u16,
+        effort: Effort,
     ) -> (Asking<'a>, Result<Reason, Stop>)
-        requires some { 0 < count }
+        requires some { IsEffort effort }
         ensures answer { result.0.answer ≡ self.entry.answer }
     {
-        let (asking, overlap) = self.overlapped(first, second, count);
+        let (asking, overlap) = self.overlapped(first, second, effort);
         match overlap {
             Ok(Overlap::DisjointHeaders) => (asking, Ok(Reason::Headers(first, second))),
             Ok(Overlap::DisjointClause(place)) => (asking, Ok(Reason::Refused(place))),
@@ -178,7 +180,7 @@ impl<'a> Asking<'a> {
                 if instance.is_certain {
                     return (asking, Ok(Reason::Nothing));
                 }
-                asking.reason_unless_apart(first, second, count)
+                asking.reason_unless_apart(first, second, effort)
             }
             Ok(Overlap::Allowed(_)) => (asking, Ok(Reason::Nothing)),
             Ok(Overlap::NoCommonTrait) => (asking, Ok(Reason::Nothing)),
@@ -191,15 +193,15 @@ impl<'a> Asking<'a> {
         self,
         first: ImplId,
         second: ImplId,
-        count: u16,
+        effort: Effort,
     ) -> (Asking<'a>, Result<Reason, Stop>)
-        requires some { 0 < count }
+        requires some { IsEffort effort }
         ensures answer { result.0.answer ≡ self.entry.answer }
     {
-        let (asking, apart) = self.kept_apart(first, second, count);
+        let (asking, apart) = self.kept_apart(first, second, effort);
         match apart {
             Ok(true) => (asking, Ok(Reason::Nothing)),
-            Ok(false) => asking.reason_unless_negated(first, second, count),
+            Ok(false) => asking.reason_unless_negated(first, second, effort),
             Err(stop) => (asking, Err(stop)),
         }
     }
@@ -210,15 +212,15 @@ impl<'a> Asking<'a> {
         self,
         first: ImplId,
         second: ImplId,
-        count: u16,
+        effort: Effort,
     ) -> (Asking<'a>, Result<Reason, Stop>)
-        requires some { 0 < count }
+        requires some { IsEffort effort }
         ensures answer { result.0.answer ≡ self.entry.answer }
     {
         if !self.given.negative {
             return (self, Ok(Reason::Open(first, second)));
         }
-        let (asking, clause) = self.negated(first, second, count);
+        let (asking, clause) = self.negated(first, second, effort);
         match clause {
             Ok(Some(place)) => (asking, Ok(Reason::Negated(place))),
             Ok(None) => (asking, Ok(Reason::Open(first, second))),
@@ -231,14 +233,14 @@ impl<'a> Asking<'a> {
         self,
         first: ImplId,
         second: ImplId,
-        count: u16,
+        effort: Effort,
     ) -> (Asking<'a>, Result<Reasoned, Stop>)
-        requires some { 0 < count }
+        requires some { IsEffort effort }
         ensures sorts { IfOk result.1 (AreReasoned result.0.scope.maker.trees) }
         ensures answer { result.0.answer ≡ self.entry.answer }
     {
         let (maker, rest) = self.apart();
-        let (maker, reasoned) = ask_reasoned(rest.alloc, maker, &rest.given, first, second, count);
+        let (maker, reasoned) = ask_reasoned(rest.alloc, maker, &rest.given, first, second, effort);
         (rest.with(maker), reasoned)
     }
 

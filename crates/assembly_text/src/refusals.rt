@@ -4,7 +4,7 @@ ghost use Rattle.ir_trees.specs.Declarations.References.{ArgumentsFit};
 ghost use Rattle.ir_trees.specs.Syntax.Words.{IsArgs, IsClause};
 
 use crate::asking::{Asking, Query};
-use crate::checking::rounds_alone;
+use crate::checking::read_effort_alone;
 use crate::telling::name_of_impl;
 use assembly_notation::faults::Fault;
 use assembly_notation::types::Scope;
@@ -206,8 +206,8 @@ impl<'a> Asking<'a> {
         mut words: Words<'b>,
     ) -> (Asking<'a>, Result<Result<(), Stop>, Fault<'b>>) {
         match self.goal(&mut words) {
-            Ok((count, predicate)) => {
-                let (asking, made) = self.add_reasons_of_goal(predicate, count);
+            Ok((effort, predicate)) => {
+                let (asking, made) = self.add_reasons_of_goal(predicate, effort);
                 (asking, Ok(made))
             }
             Err(fault) => (self, Err(fault)),
@@ -220,8 +220,8 @@ impl<'a> Asking<'a> {
         mut words: Words<'b>,
     ) -> (Asking<'a>, Result<Result<(), Stop>, Fault<'b>>) {
         match self.two_impls(&mut words) {
-            Ok((count, first, second)) => {
-                let (asking, made) = self.add_reasons(first, second, count);
+            Ok((effort, first, second)) => {
+                let (asking, made) = self.add_reasons(first, second, effort);
                 (asking, Ok(made))
             }
             Err(fault) => (self, Err(fault)),
@@ -233,9 +233,9 @@ impl<'a> Asking<'a> {
         self,
         mut words: Words<'b>,
     ) -> (Asking<'a>, Result<Result<(), Stop>, Fault<'b>>) {
-        match rounds_alone(&mut words) {
-            Ok(count) => {
-                let (asking, made) = self.add_reasons_of_pairs(count);
+        match read_effort_alone(&mut words) {
+            Ok(effort) => {
+                let (asking, made) = self.add_reasons_of_pairs(effort);
                 (asking, Ok(made))
             }
             Err(fault) => (self, Err(fault)),

@@ -19,6 +19,7 @@ ghost use Rattle.assembly_text.specs.Overlapping.{IsOverlapAnyway, IsOverlapSolv
 ghost use Rattle.assembly_text.specs.Specializing.{IsNegationAnswered, IsTestStopped, IsTested, IsTesterFor};
 ghost use Rattle.assembly_text.specs.Together.{IsApartAnswered};
 ghost use Rattle.assembly_text.specs.Solving.{AreValues, Comes, ComesBefore, ComesUnder, IsReadGoal, IsReady, IsSolved, IsNewFor, IsOpenFor, IsSolvedBefore, roots_for, with_roots};
+ghost use Rattle.candidate_rounds.specs.Table.Efforts.{IsEffort};
 
 use assembly_notation::given::Given;
 use candidate_eval::eval::context::EvalCtxt;
@@ -27,6 +28,7 @@ use candidate_eval::eval::refusal::NoSolutionOrStop;
 use candidate_eval::eval::response::CanonicalResponse;
 use candidate_eval::eval::variable::VariableKind;
 use candidate_rounds::rounds::Rounds;
+use candidate_rounds::rounds::effort::Effort;
 use candidate_rounds::rounds::given::may_be_listed;
 use candidate_rounds::rounds::goals::Verdict;
 use candidate_rounds::rounds::normalizing::trait_predicate;
@@ -146,17 +148,17 @@ pub(crate) fn run(
     rounds: &mut Rounds,
     env: ParamEnv,
     predicate: TraitPredicate,
-    count: u16,
+    effort: Effort,
 ) -> Result<Option<Verdict>, Stop>
-    requires some { 0 < count }
+    requires some { IsEffort effort }
     requires goal { IsGoal trait_kind rounds.old.context env predicate }
     ensures grows { Grows rounds.old.context rounds.new.context }
-    ensures comes { IfOk result (λ v. Comes rounds.old env predicate count rounds.new v) }
+    ensures comes { IfOk result (λ v. Comes rounds.old env predicate effort rounds.new v) }
 {
     if !rounds.may_be_run(alloc, env, predicate)? {
         return Ok(None);
     }
-    Ok(Some(rounds.run(alloc, env, predicate, count)?))
+    Ok(Some(rounds.run_by(alloc, env, predicate, effort)?))
 }
 
 /// The environment of these clauses, with root variables made if the goal has variables; `None` where a bound variable escapes from the goal.
@@ -188,16 +190,16 @@ fn ask(
     rounds: &mut Rounds,
     clauses: &[Clause],
     predicate: TraitPredicate,
-    count: u16,
+    effort: Effort,
 ) -> Result<Option<Verdict>, Stop>
-    requires some { 0 < count }
+    requires some { IsEffort effort }
     requires clauses { ClauseListFits rounds.old.context.trees clauses.now }
     requires read { IsReadGoal rounds.old.context predicate }
     ensures grows { Grows rounds.old.context rounds.new.context }
-    ensures comes { IfOk result (λ v. ComesUnder rounds.old rounds.new clauses.now predicate count v) }
+    ensures comes { IfOk result (λ v. ComesUnder rounds.old rounds.new clauses.now predicate effort v) }
 {
     match environment(rounds, clauses, predicate)? {
-        Some(env) => run(alloc, rounds, env, predicate, count),
+        Some(env) => run(alloc, rounds, env, predicate, effort),
         None => Ok(None),
     }
 }
@@ -261,18 +263,18 @@ pub fn solve(
     cx: Cx,
     given: &Given,
     predicate: TraitPredicate,
-    count: u16,
+    effort: Effort,
 ) -> (Cx, Result<Option<Verdict>, Stop>)
-    requires some { 0 < count }
+    requires some { IsEffort effort }
     requires given { GivenFits cx.trees given.now }
     requires read { IsReadGoal cx predicate }
     ensures grows { Grows cx result.0 }
-    ensures comes { IfOk result.1 (λ v. IsSolved cx given.now predicate count result.0 v) }
+    ensures comes { IfOk result.1 (λ v. IsSolved cx given.now predicate effort result.0 v) }
 {
     match evaluator(alloc, cx, given) {
         Ok(mut rounds) => {
             let clauses = given.clauses.as_slice();
-            let verdict = ask(alloc, &mut rounds, clauses, predicate, count);
+            let verdict = ask(alloc, &mut rounds, clauses, predicate, effort);
             (context_of(rounds), verdict)
         }
         Err((cx, stop)) => (cx, Err(stop)),
@@ -285,16 +287,16 @@ fn ask_for_values(
     rounds: &mut Rounds,
     clauses: &[Clause],
     predicate: TraitPredicate,
-    count: u16,
+    effort: Effort,
 ) -> Result<Solved, Stop>
-    requires some { 0 < count }
+    requires some { IsEffort effort }
     requires clauses { ClauseListFits rounds.old.context.trees clauses.now }
     requires read { IsReadGoal rounds.old.context predicate }
     ensures grows { Grows rounds.old.context rounds.new.context }
-    ensures comes { IfOk result (λ s. ComesBefore rounds.old rounds.new clauses.now predicate count s.verdict) }
+    ensures comes { IfOk result (λ s. ComesBefore rounds.old rounds.new clauses.now predicate effort s.verdict) }
     ensures sorts { IfOk result (λ s. AreValues rounds.new.context.trees s.values.items) }
 {
-    let verdict = ask(alloc, rounds, clauses, predicate, count)?;
+    let verdict = ask(alloc, rounds, clauses, predicate, effort)?;
     let values = match verdict {
         Some(Verdict::Yes(_, _)) => found(alloc, rounds, clauses, predicate)?,
         _ => Vec::new(alloc),
@@ -309,19 +311,19 @@ pub fn solve_for_values(
     cx: Cx,
     given: &Given,
     predicate: TraitPredicate,
-    count: u16,
+    effort: Effort,
 ) -> (Cx, Result<Solved, Stop>)
-    requires some { 0 < count }
+    requires some { IsEffort effort }
     requires given { GivenFits cx.trees given.now }
     requires read { IsReadGoal cx predicate }
     ensures grows { Grows cx result.0 }
-    ensures comes { IfOk result.1 (λ s. IsSolvedBefore cx given.now predicate count result.0 s.verdict) }
+    ensures comes { IfOk result.1 (λ s. IsSolvedBefore cx given.now predicate effort result.0 s.verdict) }
     ensures sorts { IfOk result.1 (λ s. AreValues result.0.trees s.values.items) }
 {
     match evaluator(alloc, cx, given) {
         Ok(mut rounds) => {
             let clauses = given.clauses.as_slice();
-            let solved = ask_for_values(alloc, &mut rounds, clauses, predicate, count);
+            let solved = ask_for_values(alloc, &mut rounds, clauses, predicate, effort);
             (context_of(rounds), solved)
         }
         Err((cx, stop)) => (cx, Err(stop)),
@@ -347,16 +349,16 @@ fn normal_after(
     rounds: &mut Rounds,
     env: ParamEnv,
     alias: AliasTy,
-    count: u16,
+    effort: Effort,
 ) -> Result<Normal, Stop>
-    requires some { 0 < count }
+    requires some { IsEffort effort }
     requires projection { IsProjection rounds.old.context env alias }
     requires asked { may_be_asked (trait_key rounds.old env alias) ≡ true }
     ensures grows { Grows rounds.old.context rounds.new.context }
     ensures sort { IfOk result (IsNormal rounds.new.context.trees) }
-    ensures is { IfOk result (λ n. IsNormalOf rounds.old env alias count rounds.new n) }
+    ensures is { IfOk result (λ n. IsNormalOf rounds.old env alias effort rounds.new n) }
 {
-    match rounds.normalize(alloc, env, alias, count)? {
+    match rounds.normalize(alloc, env, alias, effort)? {
         Some(response) => Ok(Normal::Answered(response)),
         None => Ok(Normal::Refused),
     }
@@ -368,20 +370,20 @@ fn settled_normal(
     rounds: &mut Rounds,
     env: ParamEnv,
     alias: AliasTy,
-    count: u16,
+    effort: Effort,
 ) -> Result<Normal, Stop>
-    requires some { 0 < count }
+    requires some { IsEffort effort }
     requires projection { IsProjection rounds.old.context env alias }
     requires asked { may_be_asked (trait_key rounds.old env alias) ≡ true }
     ensures grows { Grows rounds.old.context rounds.new.context }
     ensures sort { IfOk result (IsNormal rounds.new.context.trees) }
-    ensures is { IfOk result (λ n. IsSettledNormalOf rounds.old env alias count rounds.new n) }
+    ensures is { IfOk result (λ n. IsSettledNormalOf rounds.old env alias effort rounds.new n) }
 {
     let predicate = trait_predicate(rounds.cx(), alias);
-    match rounds.run(alloc, env, predicate, count)? {
+    match rounds.run_by(alloc, env, predicate, effort)? {
         Verdict::Maybe(_, _) => Ok(Normal::Open),
         Verdict::Refused => Ok(Normal::Refused),
-        Verdict::Yes(_, _) => normal_after(alloc, rounds, env, alias, count),
+        Verdict::Yes(_, _) => normal_after(alloc, rounds, env, alias, effort),
     }
 }
 
@@ -392,23 +394,23 @@ fn run_normal(
     rounds: &mut Rounds,
     env: ParamEnv,
     alias: AliasTy,
-    count: u16,
+    effort: Effort,
     waits: bool,
 ) -> Result<Normal, Stop>
-    requires some { 0 < count }
+    requires some { IsEffort effort }
     requires projection { IsProjection rounds.old.context env alias }
     ensures grows { Grows rounds.old.context rounds.new.context }
     ensures sort { IfOk result (IsNormal rounds.new.context.trees) }
-    ensures comes { IfOk result (λ n. NormalComes rounds.old env alias count waits rounds.new n) }
+    ensures comes { IfOk result (λ n. NormalComes rounds.old env alias effort waits rounds.new n) }
 {
     let predicate = trait_predicate(rounds.cx(), alias);
     if !rounds.may_be_run(alloc, env, predicate)? {
         return Ok(Normal::Unasked);
     }
     if waits {
-        return settled_normal(alloc, rounds, env, alias, count);
+        return settled_normal(alloc, rounds, env, alias, effort);
     }
-    normal_after(alloc, rounds, env, alias, count)
+    normal_after(alloc, rounds, env, alias, effort)
 }
 
 /// What the projection comes to under these clauses, as `run_normal` has it.
@@ -417,22 +419,22 @@ fn ask_normal(
     rounds: &mut Rounds,
     clauses: &[Clause],
     alias: AliasTy,
-    count: u16,
+    effort: Effort,
     waits: bool,
 ) -> Result<Normal, Stop>
-    requires some { 0 < count }
+    requires some { IsEffort effort }
     requires clauses { ClauseListFits rounds.old.context.trees clauses.now }
     requires projection { IsReadProjection rounds.old.context alias }
     ensures grows { Grows rounds.old.context rounds.new.context }
     ensures sort { IfOk result (IsNormal rounds.new.context.trees) }
-    ensures comes { IfOk result (λ n. NormalComesUnder rounds.old rounds.new clauses.now alias count waits n) }
+    ensures comes { IfOk result (λ n. NormalComesUnder rounds.old rounds.new clauses.now alias effort waits n) }
 {
     if rounds.cx().has_escaping_bound_vars(alias.args) {
         return Ok(Normal::Unasked);
     }
     let under = rounds.mk_param_env(clauses)?;
     add_roots(rounds, alias.args)?;
-    run_normal(alloc, rounds, under, alias, count, waits)
+    run_normal(alloc, rounds, under, alias, effort, waits)
 }
 
 /// What a projection comes to in a new evaluator, in so many rounds at most; and the context, with the nodes that were made meanwhile.
@@ -443,20 +445,20 @@ pub fn normalize(
     cx: Cx,
     given: &Given,
     alias: AliasTy,
-    count: u16,
+    effort: Effort,
     waits: bool,
 ) -> (Cx, Result<Normal, Stop>)
-    requires some { 0 < count }
+    requires some { IsEffort effort }
     requires given { GivenFits cx.trees given.now }
     requires projection { IsReadProjection cx alias }
     ensures grows { Grows cx result.0 }
     ensures sort { IfOk result.1 (IsNormal result.0.trees) }
-    ensures comes { IfOk result.1 (λ n. IsNormalSolved cx given.now alias count waits result.0 n) }
+    ensures comes { IfOk result.1 (λ n. IsNormalSolved cx given.now alias effort waits result.0 n) }
 {
     match evaluator(alloc, cx, given) {
         Ok(mut rounds) => {
             let clauses = given.clauses.as_slice();
-            let normal = ask_normal(alloc, &mut rounds, clauses, alias, count, waits);
+            let normal = ask_normal(alloc, &mut rounds, clauses, alias, effort, waits);
             (context_of(rounds), normal)
         }
         Err((cx, stop)) => (cx, Err(stop)),
@@ -471,17 +473,17 @@ pub fn overlap(
     given: &Given,
     first: ImplId,
     second: ImplId,
-    count: u16,
+    effort: Effort,
 ) -> (Cx, Result<Overlap, Stop>)
-    requires some { 0 < count }
+    requires some { IsEffort effort }
     requires given { GivenFits cx.trees given.now }
     ensures grows { Grows cx result.0 }
-    ensures is { IfOk result.1 (IsOverlapSolved cx given.now first second count result.0) }
+    ensures is { IfOk result.1 (IsOverlapSolved cx given.now first second effort result.0) }
     ensures stopped { IfErr result.1 (IsOverlapStopped cx given.now result.0) }
 {
     match open_evaluator(alloc, cx, given) {
         Ok(mut rounds) => {
-            let overlap = impls_overlap(alloc, &mut rounds, first, second, count);
+            let overlap = impls_overlap(alloc, &mut rounds, first, second, effort);
             (context_of(rounds), overlap)
         }
         Err((cx, stop)) => (cx, Err(stop)),
@@ -495,17 +497,17 @@ pub fn overlap_anyway(
     given: &Given,
     first: ImplId,
     second: ImplId,
-    count: u16,
+    effort: Effort,
 ) -> (Cx, Result<Overlap, Stop>)
-    requires some { 0 < count }
+    requires some { IsEffort effort }
     requires given { GivenFits cx.trees given.now }
     ensures grows { Grows cx result.0 }
-    ensures is { IfOk result.1 (IsOverlapAnyway cx given.now first second count result.0) }
+    ensures is { IfOk result.1 (IsOverlapAnyway cx given.now first second effort result.0) }
     ensures stopped { IfErr result.1 (IsOverlapStopped cx given.now result.0) }
 {
     match open_evaluator(alloc, cx, given) {
         Ok(mut rounds) => {
-            let overlap = impls_overlap_anyway(alloc, &mut rounds, first, second, count);
+            let overlap = impls_overlap_anyway(alloc, &mut rounds, first, second, effort);
             (context_of(rounds), overlap)
         }
         Err((cx, stop)) => (cx, Err(stop)),
@@ -520,9 +522,9 @@ pub fn apart_by_clauses(
     given: &Given,
     first: ImplId,
     second: ImplId,
-    count: u16,
+    effort: Effort,
 ) -> (Cx, Result<bool, Stop>)
-    requires some { 0 < count }
+    requires some { IsEffort effort }
     requires given { GivenFits cx.trees given.now }
     ensures grows { Grows cx result.0 }
     ensures is { IfOk result.1 (IsApartAnswered cx given.now first second result.0) }
@@ -530,7 +532,7 @@ pub fn apart_by_clauses(
 {
     match open_evaluator(alloc, cx, given) {
         Ok(mut rounds) => {
-            let apart = kept_apart_by_clauses(alloc, &mut rounds, first, second, count);
+            let apart = kept_apart_by_clauses(alloc, &mut rounds, first, second, effort);
             (context_of(rounds), apart)
         }
         Err((cx, stop)) => (cx, Err(stop)),
@@ -562,9 +564,9 @@ pub fn test_specialization(
     given: &Given,
     special: ImplId,
     general: ImplId,
-    count: u16,
+    effort: Effort,
 ) -> (Cx, Result<Specialization, Stop>)
-    requires some { 0 < count }
+    requires some { IsEffort effort }
     requires given { GivenFits cx.trees given.now }
     ensures grows { Grows cx result.0 }
     ensures is { IfOk result.1 (IsTested cx given.now special general result.0) }
@@ -572,7 +574,7 @@ pub fn test_specialization(
 {
     match tester(alloc, cx, given) {
         Ok(mut rounds) => {
-            let answer = specializes(alloc, &mut rounds, special, general, count);
+            let answer = specializes(alloc, &mut rounds, special, general, effort);
             (context_of(rounds), answer)
         }
         Err((cx, stop)) => (cx, Err(stop)),
@@ -587,9 +589,9 @@ pub fn negated_clause(
     given: &Given,
     first: ImplId,
     second: ImplId,
-    count: u16,
+    effort: Effort,
 ) -> (Cx, Result<Option<WhereClause>, Stop>)
-    requires some { 0 < count }
+    requires some { IsEffort effort }
     requires given { GivenFits cx.trees given.now }
     ensures grows { Grows cx result.0 }
     ensures is { IfOk result.1 (IsNegationAnswered cx given.now first second result.0) }
@@ -597,7 +599,7 @@ pub fn negated_clause(
 {
     match tester(alloc, cx, given) {
         Ok(mut rounds) => {
-            let clause = kept_apart_by_negation(alloc, &mut rounds, first, second, count);
+            let clause = kept_apart_by_negation(alloc, &mut rounds, first, second, effort);
             (context_of(rounds), clause)
         }
         Err((cx, stop)) => (cx, Err(stop)),

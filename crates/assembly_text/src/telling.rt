@@ -9,6 +9,7 @@ ghost use Rattle.assembly_text.specs.Asking.{AddsSomeCandidates, AddsSomeValues,
 ghost use Rattle.assembly_text.specs.Explaining.{AddsCandidates, AreReasons, IsAsked};
 ghost use Rattle.assembly_text.specs.Printing.{AddsVerdict, AddsWord, AddsWordsBefore};
 ghost use Rattle.assembly_text.specs.Solving.{AddsGoalWithValues, IsReadGoal, IsSolvedBefore};
+ghost use Rattle.candidate_rounds.specs.Table.Efforts.{IsEffort};
 
 use crate::asking::Asking;
 use crate::considering::{Considered, Listed, consider};
@@ -21,6 +22,7 @@ use assembly_notation::words::Words;
 use candidate_eval::eval::clauses::predicate_in;
 use candidate_eval::eval::source::{BuiltinImplSource, CandidateSource, ParamEnvSource};
 use candidate_rounds::rounds::derivation::DerivationStep;
+use candidate_rounds::rounds::effort::Effort;
 use ir_context::decl::context::Cx;
 use ir_trees::decl::contents::{AliasBoundKind, ImplId};
 use ir_trees::ir::kinds::{
@@ -39,8 +41,8 @@ impl<'a> Asking<'a> {
     {
         self.forget();
         match self.goal(&mut words) {
-            Ok((count, predicate)) => {
-                let (asking, made) = self.answered_with_reasons(predicate, count);
+            Ok((effort, predicate)) => {
+                let (asking, made) = self.answered_with_reasons(predicate, effort);
                 (asking, Ok(made))
             }
             Err(fault) => (self, Err(fault)),
@@ -51,14 +53,14 @@ impl<'a> Asking<'a> {
     fn answered_with_reasons(
         self,
         predicate: TraitPredicate,
-        count: u16,
+        effort: Effort,
     ) -> (Asking<'a>, Result<(), Stop>)
-        requires some { 0 < count }
+        requires some { IsEffort effort }
         requires read { IsReadGoal self.scope.maker predicate }
         ensures grows { Grows self.entry.scope.maker result.0.scope.maker }
-        ensures adds { OnOk result.1 (AddsGoalWithValues self.entry.scope.maker self.entry.given predicate count result.0.scope.maker (string_bytes self.entry.answer) (string_bytes result.0.answer)) }
+        ensures adds { OnOk result.1 (AddsGoalWithValues self.entry.scope.maker self.entry.given predicate effort result.0.scope.maker (string_bytes self.entry.answer) (string_bytes result.0.answer)) }
     {
-        let (mut asking, explained) = self.explained(predicate, count);
+        let (mut asking, explained) = self.explained(predicate, effort);
         let made = asking.print_explained(explained);
         (asking, made)
     }
@@ -67,12 +69,12 @@ impl<'a> Asking<'a> {
     fn explained(
         self,
         predicate: TraitPredicate,
-        count: u16,
+        effort: Effort,
     ) -> (Asking<'a>, Result<Explained, Stop>)
-        requires some { 0 < count }
+        requires some { IsEffort effort }
         requires read { IsReadGoal self.scope.maker predicate }
         ensures grows { Grows self.entry.scope.maker result.0.scope.maker }
-        ensures comes { IfOk result.1 (λ e. IsSolvedBefore self.entry.scope.maker self.entry.given predicate count result.0.scope.maker e.verdict) }
+        ensures comes { IfOk result.1 (λ e. IsSolvedBefore self.entry.scope.maker self.entry.given predicate effort result.0.scope.maker e.verdict) }
         ensures sorts { IfOk result.1 (λ e. AreReasons result.0.scope.maker.trees e.reasons) }
         ensures answer { result.0.answer ≡ self.entry.answer }
     {
@@ -82,7 +84,7 @@ impl<'a> Asking<'a> {
             maker,
             &rest.given,
             predicate,
-            count,
+            effort,
             rest.reasons,
         );
         (rest.with(maker), explained)
@@ -121,12 +123,12 @@ impl<'a> Asking<'a> {
     pub(crate) fn add_reasons_of_goal(
         self,
         predicate: TraitPredicate,
-        count: u16,
+        effort: Effort,
     ) -> (Asking<'a>, Result<(), Stop>)
-        requires some { 0 < count }
+        requires some { IsEffort effort }
         requires read { IsReadGoal self.scope.maker predicate }
     {
-        let (mut asking, explained) = self.explained(predicate, count);
+        let (mut asking, explained) = self.explained(predicate, effort);
         let made = asking.print_lines(explained);
         (asking, made)
     }
@@ -157,8 +159,8 @@ impl<'a> Asking<'a> {
     {
         self.forget();
         match self.goal(&mut words) {
-            Ok((count, predicate)) => {
-                let (asking, made) = self.answered_with_candidates(predicate, count);
+            Ok((effort, predicate)) => {
+                let (asking, made) = self.answered_with_candidates(predicate, effort);
                 (asking, Ok(made))
             }
             Err(fault) => (self, Err(fault)),
@@ -169,14 +171,14 @@ impl<'a> Asking<'a> {
     fn answered_with_candidates(
         self,
         predicate: TraitPredicate,
-        count: u16,
+        effort: Effort,
     ) -> (Asking<'a>, Result<(), Stop>)
-        requires some { 0 < count }
+        requires some { IsEffort effort }
         requires read { IsReadGoal self.scope.maker predicate }
         ensures grows { Grows self.entry.scope.maker result.0.scope.maker }
-        ensures adds { OnOk result.1 (AddsCandidates self.entry.scope.maker self.entry.given predicate count result.0.scope.maker (string_bytes self.entry.answer) (string_bytes result.0.answer)) }
+        ensures adds { OnOk result.1 (AddsCandidates self.entry.scope.maker self.entry.given predicate effort result.0.scope.maker (string_bytes self.entry.answer) (string_bytes result.0.answer)) }
     {
-        let (mut asking, considered) = self.considered(predicate, count);
+        let (mut asking, considered) = self.considered(predicate, effort);
         let made = asking.print_considered(considered);
         (asking, made)
     }
@@ -185,16 +187,16 @@ impl<'a> Asking<'a> {
     fn considered(
         self,
         predicate: TraitPredicate,
-        count: u16,
+        effort: Effort,
     ) -> (Asking<'a>, Result<Considered, Stop>)
-        requires some { 0 < count }
+        requires some { IsEffort effort }
         requires read { IsReadGoal self.scope.maker predicate }
         ensures grows { Grows self.entry.scope.maker result.0.scope.maker }
-        ensures comes { IfOk result.1 (λ x. IsSolvedBefore self.entry.scope.maker self.entry.given predicate count result.0.scope.maker x.verdict) }
+        ensures comes { IfOk result.1 (λ x. IsSolvedBefore self.entry.scope.maker self.entry.given predicate effort result.0.scope.maker x.verdict) }
         ensures answer { result.0.answer ≡ self.entry.answer }
     {
         let (maker, rest) = self.apart();
-        let (maker, considered) = consider(rest.alloc, maker, &rest.given, predicate, count);
+        let (maker, considered) = consider(rest.alloc, maker, &rest.given, predicate, effort);
         (rest.with(maker), considered)
     }
 

@@ -8,9 +8,11 @@ ghost use Rattle.assembly_text.specs.Negating.{AddsOverlap, AddsUnlessApart, Add
 ghost use Rattle.assembly_text.specs.Overlapping.{IsOverlapStopped};
 ghost use Rattle.assembly_text.specs.Specializing.{IsNegationAnswered, IsTestStopped};
 ghost use Rattle.assembly_text.specs.Together.{IsApartAnswered};
+ghost use Rattle.candidate_rounds.specs.Table.Efforts.{IsEffort};
 
 use crate::asking::Asking;
 use crate::solving::{apart_by_clauses, negated_clause};
+use candidate_rounds::rounds::effort::Effort;
 use ir_trees::decl::contents::ImplId;
 use ir_trees::ir::stop::Stop;
 use overlaps::instance::CommonInstance;
@@ -37,14 +39,14 @@ impl<'a> Asking<'a> {
         self,
         first: ImplId,
         second: ImplId,
-        count: u16,
+        effort: Effort,
     ) -> (Asking<'a>, Result<(), Stop>)
-        requires some { 0 < count }
-        ensures { OnOk result.1 (AddsOverlap self.entry.scope.maker self.entry.given first second count result.0.scope.maker (string_bytes self.entry.answer) (string_bytes result.0.answer)) }
+        requires some { IsEffort effort }
+        ensures { OnOk result.1 (AddsOverlap self.entry.scope.maker self.entry.given first second effort result.0.scope.maker (string_bytes self.entry.answer) (string_bytes result.0.answer)) }
     {
-        let (mut asking, overlap) = self.overlapped(first, second, count);
+        let (mut asking, overlap) = self.overlapped(first, second, effort);
         match instance_of(overlap) {
-            Some(instance) => asking.answered_unless_apart(first, second, instance, count),
+            Some(instance) => asking.answered_unless_apart(first, second, instance, effort),
             None => {
                 let made = asking.print_overlap(first, overlap);
                 (asking, made)
@@ -59,13 +61,13 @@ impl<'a> Asking<'a> {
         first: ImplId,
         second: ImplId,
         instance: CommonInstance,
-        count: u16,
+        effort: Effort,
     ) -> (Asking<'a>, Result<(), Stop>)
-        requires some { 0 < count }
+        requires some { IsEffort effort }
         requires printable { IsArgs self.scope.maker.trees instance.trait_ref.args }
         ensures { OnOk result.1 (AddsUnlessApart self.entry.scope.maker self.entry.given first second instance result.0.scope.maker (string_bytes self.entry.answer) (string_bytes result.0.answer)) }
     {
-        let (mut asking, apart) = self.kept_apart(first, second, count);
+        let (mut asking, apart) = self.kept_apart(first, second, effort);
         match apart {
             Ok(true) => {
                 let made = asking.print_apart();
@@ -73,7 +75,7 @@ impl<'a> Asking<'a> {
             }
             Ok(false) => {
                 if asking.given.negative {
-                    return asking.answered_unless_negated(first, second, instance, count);
+                    return asking.answered_unless_negated(first, second, instance, effort);
                 }
                 let made = asking.print_instance(instance);
                 (asking, made)
@@ -88,13 +90,13 @@ impl<'a> Asking<'a> {
         first: ImplId,
         second: ImplId,
         instance: CommonInstance,
-        count: u16,
+        effort: Effort,
     ) -> (Asking<'a>, Result<(), Stop>)
-        requires some { 0 < count }
+        requires some { IsEffort effort }
         requires printable { IsArgs self.scope.maker.trees instance.trait_ref.args }
         ensures { OnOk result.1 (AddsUnlessNegated self.entry.scope.maker self.entry.given first second instance result.0.scope.maker (string_bytes self.entry.answer) (string_bytes result.0.answer)) }
     {
-        let (mut asking, clause) = self.negated(first, second, count);
+        let (mut asking, clause) = self.negated(first, second, effort);
         let made = asking.print_unless_negated(first, instance, clause);
         (asking, made)
     }
@@ -104,9 +106,9 @@ impl<'a> Asking<'a> {
         self,
         first: ImplId,
         second: ImplId,
-        count: u16,
+        effort: Effort,
     ) -> (Asking<'a>, Result<bool, Stop>)
-        requires some { 0 < count }
+        requires some { IsEffort effort }
         ensures grows { Grows self.entry.scope.maker result.0.scope.maker }
         ensures is { IfOk result.1 (IsApartAnswered self.entry.scope.maker self.entry.given first second result.0.scope.maker) }
         ensures stopped { IfErr result.1 (IsOverlapStopped self.entry.scope.maker self.entry.given result.0.scope.maker) }
@@ -115,7 +117,14 @@ impl<'a> Asking<'a> {
         ensures answer { result.0.answer ≡ self.entry.answer }
     {
         let (maker, rest) = self.apart();
-        let (maker, apart) = apart_by_clauses(rest.alloc, maker, &rest.given, first, second, count);
+        let (maker, apart) = apart_by_clauses(
+            rest.alloc,
+            maker,
+            &rest.given,
+            first,
+            second,
+            effort,
+        );
         (rest.with(maker), apart)
     }
 
@@ -124,9 +133,9 @@ impl<'a> Asking<'a> {
         self,
         first: ImplId,
         second: ImplId,
-        count: u16,
+        effort: Effort,
     ) -> (Asking<'a>, Result<Option<WhereClause>, Stop>)
-        requires some { 0 < count }
+        requires some { IsEffort effort }
         ensures grows { Grows self.entry.scope.maker result.0.scope.maker }
         ensures is { IfOk result.1 (IsNegationAnswered self.entry.scope.maker self.entry.given first second result.0.scope.maker) }
         ensures stopped { IfErr result.1 (IsTestStopped self.entry.scope.maker self.entry.given result.0.scope.maker) }
@@ -135,7 +144,7 @@ impl<'a> Asking<'a> {
         ensures answer { result.0.answer ≡ self.entry.answer }
     {
         let (maker, rest) = self.apart();
-        let (maker, clause) = negated_clause(rest.alloc, maker, &rest.given, first, second, count);
+        let (maker, clause) = negated_clause(rest.alloc, maker, &rest.given, first, second, effort);
         (rest.with(maker), clause)
     }
 }

@@ -32,3 +32,4 @@ pub mod Steps
 pub mod StepStops
 pub mod Sources
 pub mod Needed
+pub mod Settled

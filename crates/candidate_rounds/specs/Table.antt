@@ -3,6 +3,7 @@ pub mod DerivedNormals
 pub mod Steps
 pub mod StepStops
 pub mod Sources
+pub mod Efforts
 pub mod Entries
 pub mod Goals
 pub mod KeyNumbers

@@ -3,6 +3,8 @@
 mod binding;
 pub mod cleanness;
 pub mod derivation;
+mod due;
+pub mod effort;
 mod equating;
 pub mod evaluator;
 mod fresh;

@@ -10,6 +10,7 @@ use Rattle.overlaps.specs.Ordered.{in_order}
 use Rattle.overlaps.specs.Refused.{ClauseIsRefused}
 use Rattle.examples.specs.declared.apart.Reason.{Reason}
 use Rattle.examples.specs.declared.apart.Reason.TheVariants as reason
+use Rattle.candidate_rounds.specs.declared.rounds.effort.Effort.{Effort}
 
 -- Of the impls of these numbers, if they are declared: no reference is an instance of both headers, whatever the aliases are that
 -- aren't listed; or, where the headers were made equal, that where clause was refused. The evaluator is that of the call, and that which it left.
@@ -23,7 +24,7 @@ KeepsApart old new a b why = let p = in_order a b in KeepsApartAsGiven old new p
 
 -- Why two impls aren't kept apart: they are of different traits; their overlap is allowed, by what they declare; or where their headers are
 -- equal each where clause of both was asked in so many rounds, and none is refused.
-pub data AreNotKeptApart (old new : Evaluator) (count : ℕ) (a b : ImplId) : Type 0 where
-  other_traits : AreOfOtherTraits old.context (in_order a b).0 (in_order a b).1 → AreNotKeptApart old new count a b
-  is_allowed : (w : Allowance) → allowance_of old.context a b ≡ Some w → AreNotKeptApart old new count a b
-  clauses_stay : ClausesWereAsked old count (table_of new) a b → AreNotKeptApart old new count a b
+pub data AreNotKeptApart (old new : Evaluator) (effort : Effort) (a b : ImplId) : Type 0 where
+  other_traits : AreOfOtherTraits old.context (in_order a b).0 (in_order a b).1 → AreNotKeptApart old new effort a b
+  is_allowed : (w : Allowance) → allowance_of old.context a b ≡ Some w → AreNotKeptApart old new effort a b
+  clauses_stay : ClausesWereAsked old effort (table_of new) a b → AreNotKeptApart old new effort a b

@@ -1,11 +1,13 @@
 //! What keeps two impls apart.
 
-ghost use Rattle.std.specs.Prelude.{◌≡◌, ◌<◌, None, IfOk, IfSome};
+ghost use Rattle.std.specs.Prelude.{◌≡◌, None, IfOk, IfSome};
+ghost use Rattle.candidate_rounds.specs.Table.Efforts.{IsEffort};
 ghost use Rattle.examples.specs.Apart.{AreNotKeptApart, KeepsApart};
 
 use candidate_ir::decl::contents::ImplId;
 use candidate_ir::ir::stop::Stop;
 use candidate_rounds::rounds::Rounds;
+use candidate_rounds::rounds::effort::Effort;
 use overlaps::overlap::{Overlap, WhereClause, impls_overlap};
 use std::alloc::Global;
 
@@ -18,7 +20,7 @@ pub enum Reason {
     Clause(WhereClause),
 }
 
-/// What keeps the two impls apart, in so many rounds for each where clause, if anything does.
+/// What keeps the two impls apart, by that effort for each where clause, if anything does.
 ///
 /// After `Headers` no reference is an instance of both, whatever the aliases are that aren't listed. After `Clause` what that clause asks for
 /// was refused, where the headers are equal: each declared impl that overlaps it was, but for `default` impls and those with an alias in
@@ -32,13 +34,13 @@ pub fn kept_apart(
     rounds: &mut Rounds,
     first: ImplId,
     second: ImplId,
-    count: u16,
+    effort: Effort,
 ) -> Result<Option<Reason>, Stop>
-    requires some { 0 < count }
+    requires some { IsEffort effort }
     ensures apart { IfOk result (λ o. IfSome o (KeepsApart rounds.old rounds.new first second)) }
-    ensures together { IfOk result (λ o. o ≡ None → AreNotKeptApart rounds.old rounds.new count first second) }
+    ensures together { IfOk result (λ o. o ≡ None → AreNotKeptApart rounds.old rounds.new effort first second) }
 {
-    match impls_overlap(alloc, rounds, first, second, count)? {
+    match impls_overlap(alloc, rounds, first, second, effort)? {
         Overlap::DisjointHeaders => Ok(Some(Reason::Headers)),
         Overlap::DisjointClause(clause) => Ok(Some(Reason::Clause(clause))),
         Overlap::NoCommonTrait | Overlap::Allowed(_) | Overlap::May(_) => Ok(None),

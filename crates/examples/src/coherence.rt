@@ -18,6 +18,7 @@ use candidate_ir::ir::kinds::{
 };
 use candidate_ir::ir::stop::Stop;
 use candidate_rounds::rounds::Rounds;
+use candidate_rounds::rounds::effort::Effort;
 use overlaps::overlap::WhereClause;
 use std::alloc::Global;
 use std::process::Abort;
@@ -63,7 +64,13 @@ fn reason_for(
     second: u32,
 ) -> Result<Option<Reason>, Stop> {
     let mut rounds = evaluator(rt, alloc, TypingMode::Coherence);
-    kept_apart(alloc, &mut rounds, ImplId(first), ImplId(second), 4)
+    kept_apart(
+        alloc,
+        &mut rounds,
+        ImplId(first),
+        ImplId(second),
+        Effort::Rounds(4),
+    )
 }
 
 #[test]

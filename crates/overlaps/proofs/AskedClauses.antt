@@ -33,7 +33,7 @@ use Rattle.candidate_rounds.specs.Table.Running.{StaysBesideTable, computing, wi
 use Rattle.candidate_rounds.proofs.Table.Running.{stays-trans}
 use Rattle.rounds_judge.specs.Table.GoalTable.{GoalTable}
 use Rattle.rounds_judge.specs.Table.Keys.{key_at}
-use Rattle.rounds_judge.specs.Table.Rounds.{IsRun}
+use Rattle.candidate_rounds.specs.Table.Efforts.{Runs}
 use Rattle.overlaps.specs.PartTraits.{HaveVariable}
 use Rattle.overlaps.specs.Asked.{AllStay, BothStay, ClauseStays, FirstStay, ImplStays, StayBefore, DecidesNothing, GoalStays, IsNotRefused, SoManyStay, StaysHere, WasRun, WasTried, says_nothing, asks, decides_nothing, ran_there, stands_not, stands_nowhere, was_run, was_tried, none_asked, one_asked, before_of_first, before_of_second}
 use Rattle.overlaps.specs.Refused.{AreOpen, IsOpen, clause_at, goal_alone}
@@ -43,6 +43,7 @@ use Rattle.overlaps.specs.declared.opening.Pair.{Pair}
 use Rattle.overlaps.specs.declared.overlap.WhereClause.{WhereClause}
 use Rattle.overlaps.proofs.Refusing.{goal-is-alone, got-fits, instance-kept}
 use Rattle.overlaps.proofs.Stopping.{later-table, later-then}
+use Rattle.candidate_rounds.specs.declared.rounds.effort.Effort.{Effort}
 
 -- two things that hold where it is answered
 pub both-ok : {A E : Type 0} (r : Result A E) (P Q : A → Type 0) → IfOk r P → IfOk r Q → IfOk r (λ a. P a × Q a)
@@ -84,8 +85,8 @@ arguments-fit-kept old new r grows a fit =
 
 -- What stays of an earlier evaluator, for the same state and tables
 
-run-earlier : (old mid : Evaluator) (S : State) (count : ℕ) (g : TraitGoal) (T U : GoalTable Via) → IsLater old mid → WasRun mid S count g T U → WasRun old S count g T U
-run-earlier old mid S count g T U l h = record {
+run-earlier : (old mid : Evaluator) (S : State) (effort : Effort) (g : TraitGoal) (T U : GoalTable Via) → IsLater old mid → WasRun mid S effort g T U → WasRun old S effort g T U
+run-earlier old mid S effort g T U l h = record {
   before = h.before;
   later = later-then l h.later;
   stands = h.stands;
@@ -95,18 +96,18 @@ run-earlier old mid S count g T U l h = record {
   not_refused = subst (λ (f : Fixed). IsNotRefused (judge_of f) h.context S g) (ap (λ f. with_table f U) l.fixed_same) h.not_refused;
 }
 
-tried-earlier : (old mid : Evaluator) (S : State) (count : ℕ) (g : TraitGoal) (T U : GoalTable Via) → IsLater old mid → WasTried mid S count g T U → WasTried old S count g T U
-tried-earlier old mid S count g T U l (ran_there h) = ran_there (record { before = h.before; later = later-then l h.later; stands = h.stands; ran = h.ran })
-tried-earlier old mid S count g T U l (stands_nowhere n e) = stands_nowhere n e
+tried-earlier : (old mid : Evaluator) (S : State) (effort : Effort) (g : TraitGoal) (T U : GoalTable Via) → IsLater old mid → WasTried mid S effort g T U → WasTried old S effort g T U
+tried-earlier old mid S effort g T U l (ran_there h) = ran_there (record { before = h.before; later = later-then l h.later; stands = h.stands; ran = h.ran })
+tried-earlier old mid S effort g T U l (stands_nowhere n e) = stands_nowhere n e
 
-goal-earlier : (old mid : Evaluator) (S : State) (count : ℕ) (g : TraitGoal) (T U : GoalTable Via) → IsLater old mid → GoalStays mid S count g T U → GoalStays old S count g T U
-goal-earlier old mid S count g T U l (decides_nothing m d e) = decides_nothing m d e
-goal-earlier old mid S count g T U l (was_run h) = was_run (run-earlier old mid S count g T U l h)
-goal-earlier old mid S count g T U l (was_tried n h) = was_tried n (tried-earlier old mid S count g T U l h)
+goal-earlier : (old mid : Evaluator) (S : State) (effort : Effort) (g : TraitGoal) (T U : GoalTable Via) → IsLater old mid → GoalStays mid S effort g T U → GoalStays old S effort g T U
+goal-earlier old mid S effort g T U l (decides_nothing m d e) = decides_nothing m d e
+goal-earlier old mid S effort g T U l (was_run h) = was_run (run-earlier old mid S effort g T U l h)
+goal-earlier old mid S effort g T U l (was_tried n h) = was_tried n (tried-earlier old mid S effort g T U l h)
 
-clause-earlier : (old mid : Evaluator) (S : State) (count : ℕ) (t : Tree) (T U : GoalTable Via) → IsLater old mid → ClauseStays mid S count t T U → ClauseStays old S count t T U
-clause-earlier old mid S count t T U l (says_nothing n e) = says_nothing n e
-clause-earlier old mid S count t T U l (asks g a h) = asks g a (goal-earlier old mid S count g T U l h)
+clause-earlier : (old mid : Evaluator) (S : State) (effort : Effort) (t : Tree) (T U : GoalTable Via) → IsLater old mid → ClauseStays mid S effort t T U → ClauseStays old S effort t T U
+clause-earlier old mid S effort t T U l (says_nothing n e) = says_nothing n e
+clause-earlier old mid S effort t T U l (asks g a h) = asks g a (goal-earlier old mid S effort g T U l h)
 
 -- The goal of a predicate
 
@@ -124,18 +125,18 @@ stands-not old mid env p b grows same e a isnt fit all =
     let clash : true ≡ false = sym yes ∙ isnt in
     absurd cc)
 
-pub predicate-undecided : (old new : Evaluator) (env : ParamEnv) (p : TraitPredicate) (count : ℕ) → table_of new ≡ table_of old → IsParamEnv old.context.trees env → IsArgs old.context.trees p.trait_ref.args
+pub predicate-undecided : (old new : Evaluator) (env : ParamEnv) (p : TraitPredicate) (effort : Effort) → table_of new ≡ table_of old → IsParamEnv old.context.trees env → IsArgs old.context.trees p.trait_ref.args
     → env_forest old.context.trees env ≡ none → (state old).mode ≡ Coherence → DecidesNothing (state old) (trait_goal old.context.trees env p)
-    → GoalStays old (state old) count (goal_alone old.context.trees p) (table_of old) (table_of new)
-predicate-undecided old new env p count t e a empty m d =
+    → GoalStays old (state old) effort (goal_alone old.context.trees p) (table_of old) (table_of new)
+predicate-undecided old new env p effort t e a empty m d =
     decides_nothing m (subst (DecidesNothing (state old)) (goal-is-alone old.context old.context env p (grows-refl old.context) e a empty) d) t
 
-pub predicate-run : (old begun ran new : Evaluator) (env : ParamEnv) (p : TraitPredicate) (count : ℕ) → StaysBesideTable old begun → table_of begun ≡ table_of old → StaysBesideTable begun ran
+pub predicate-run : (old begun ran new : Evaluator) (env : ParamEnv) (p : TraitPredicate) (effort : Effort) → StaysBesideTable old begun → table_of begun ≡ table_of old → StaysBesideTable begun ran
     → fixed new ≡ fixed ran → IsParamEnv old.context.trees env → IsArgs old.context.trees p.trait_ref.args → env_forest old.context.trees env ≡ none
-    → IsRun (computing begun) (key_at (state begun) (trait_goal begun.context.trees env p)) count (table_of begun) (table_of ran)
+    → Runs (computing begun) (key_at (state begun) (trait_goal begun.context.trees env p)) effort (table_of begun) (table_of ran)
     → IsNotRefused (judge_of (fixed ran)) ran.context (state ran) (trait_goal ran.context.trees env p)
-    → GoalStays old (state old) count (goal_alone old.context.trees p) (table_of old) (table_of new)
-predicate-run old begun ran new env p count stays t more f e a empty run h =
+    → GoalStays old (state old) effort (goal_alone old.context.trees p) (table_of old) (table_of new)
+predicate-run old begun ran new env p effort stays t more f e a empty run h =
     let all = stays-trans stays more in
     let s = stays.state_same in
     let w = all.state_same in
@@ -147,7 +148,7 @@ predicate-run old begun ran new env p count stays t more f e a empty run h =
       before = begun;
       later = later-table stays;
       stands = s;
-      ran = subst (λ (q : State × TraitGoal × GoalTable Via × GoalTable Via). IsRun (computing begun) (key_at q.0 q.1) count q.2 q.3) (λ i. (s i, g i, t i, u i)) run;
+      ran = subst (λ (q : State × TraitGoal × GoalTable Via × GoalTable Via). Runs (computing begun) (key_at q.0 q.1) effort q.2 q.3) (λ i. (s i, g i, t i, u i)) run;
       context = ran.context;
       grows = more.grows;
       not_refused = subst (λ (q : Fixed × State × TraitGoal). IsNotRefused (judge_of q.0) ran.context q.1 q.2) (λ i. (z i, w i, k i)) h;
@@ -155,25 +156,25 @@ predicate-run old begun ran new env p count stays t more f e a empty run h =
 
 -- It was run where it stands, whatever it comes to; or it doesn't stand.
 
-pub predicate-tried : (old begun new : Evaluator) (env : ParamEnv) (p : TraitPredicate) (count : ℕ) → StaysBesideTable old begun → table_of begun ≡ table_of old
+pub predicate-tried : (old begun new : Evaluator) (env : ParamEnv) (p : TraitPredicate) (effort : Effort) → StaysBesideTable old begun → table_of begun ≡ table_of old
     → IsParamEnv old.context.trees env → IsArgs old.context.trees p.trait_ref.args → env_forest old.context.trees env ≡ none
-    → IsRun (computing begun) (key_at (state begun) (trait_goal begun.context.trees env p)) count (table_of begun) (table_of new)
-    → WasTried old (state old) count (goal_alone old.context.trees p) (table_of old) (table_of new)
-predicate-tried old begun new env p count stays t e a empty run =
+    → Runs (computing begun) (key_at (state begun) (trait_goal begun.context.trees env p)) effort (table_of begun) (table_of new)
+    → WasTried old (state old) effort (goal_alone old.context.trees p) (table_of old) (table_of new)
+predicate-tried old begun new env p effort stays t e a empty run =
     let s = stays.state_same in
     let g = goal-is-alone old.context begun.context env p stays.grows e a empty in
     ran_there (record {
       before = begun;
       later = later-table stays;
       stands = s;
-      ran = subst (λ (q : State × TraitGoal × GoalTable Via). IsRun (computing begun) (key_at q.0 q.1) count q.2 (table_of new)) (λ i. (s i, g i, t i)) run;
+      ran = subst (λ (q : State × TraitGoal × GoalTable Via). Runs (computing begun) (key_at q.0 q.1) effort q.2 (table_of new)) (λ i. (s i, g i, t i)) run;
     })
 
-pub predicate-not-tried : (old new : Evaluator) (env : ParamEnv) (p : TraitPredicate) (count : ℕ) (b : Bool) → table_of new ≡ table_of old → IsParamEnv old.context.trees env
+pub predicate-not-tried : (old new : Evaluator) (env : ParamEnv) (p : TraitPredicate) (effort : Effort) (b : Bool) → table_of new ≡ table_of old → IsParamEnv old.context.trees env
     → IsArgs old.context.trees p.trait_ref.args → env_forest old.context.trees env ≡ none → b ≡ false
     → (stands_at (state old) (trait_goal old.context.trees env p) ≡ true → b ≡ true)
-    → WasTried old (state old) count (goal_alone old.context.trees p) (table_of old) (table_of new)
-predicate-not-tried old new env p count b t e a empty isnt all =
+    → WasTried old (state old) effort (goal_alone old.context.trees p) (table_of old) (table_of new)
+predicate-not-tried old new env p effort b t e a empty isnt all =
     stands_nowhere
     (λ h.
     let g = goal-is-alone old.context old.context env p (grows-refl old.context) e a empty in
@@ -184,48 +185,48 @@ predicate-not-tried old new env p count b t e a empty isnt all =
 
 -- A clause with all values put in: it says nothing of a trait, or the predicate is what it says.
 
-pub clause-silent : (old mid : Evaluator) (t : Tree) (x : Clause) (count : ℕ) → table_of mid ≡ table_of old → clause_tree mid.context.trees x ≡ resolved_tree (state old) t
-    → trait_said (clause_tree mid.context.trees x).head ≡ None → ClauseStays old (state old) count (resolved_tree (state old) t) (table_of old) (table_of mid)
-clause-silent old mid t x count u is silent = says_nothing (ap (λ (v : Tree). trait_said v.head) (sym is) ∙ silent) u
+pub clause-silent : (old mid : Evaluator) (t : Tree) (x : Clause) (effort : Effort) → table_of mid ≡ table_of old → clause_tree mid.context.trees x ≡ resolved_tree (state old) t
+    → trait_said (clause_tree mid.context.trees x).head ≡ None → ClauseStays old (state old) effort (resolved_tree (state old) t) (table_of old) (table_of mid)
+clause-silent old mid t x effort u is silent = says_nothing (ap (λ (v : Tree). trait_said v.head) (sym is) ∙ silent) u
 
-pub clause-asked : (old mid : Evaluator) (t : Tree) (x : Clause) (p : TraitPredicate) (count : ℕ) (U : GoalTable Via) → IsLater old mid → state mid ≡ state old → table_of mid ≡ table_of old
+pub clause-asked : (old mid : Evaluator) (t : Tree) (x : Clause) (p : TraitPredicate) (effort : Effort) (U : GoalTable Via) → IsLater old mid → state mid ≡ state old → table_of mid ≡ table_of old
     → clause_tree mid.context.trees x ≡ resolved_tree (state old) t → trait_said (clause_tree mid.context.trees x).head ≡ Some (p.trait_ref.def_id, p.polarity)
-    → arguments_of (clause_tree mid.context.trees x) ≡ args_forest mid.context.trees p.trait_ref.args → GoalStays mid (state mid) count (goal_alone mid.context.trees p) (table_of mid) U
-    → ClauseStays old (state old) count (resolved_tree (state old) t) (table_of old) U
-clause-asked old mid t x p count U l s u is said fits h =
+    → arguments_of (clause_tree mid.context.trees x) ≡ args_forest mid.context.trees p.trait_ref.args → GoalStays mid (state mid) effort (goal_alone mid.context.trees p) (table_of mid) U
+    → ClauseStays old (state old) effort (resolved_tree (state old) t) (table_of old) U
+clause-asked old mid t x p effort U l s u is said fits h =
     asks (goal_alone mid.context.trees p)
     (record {
       says = ap (λ (v : Tree). trait_said v.head) (sym is) ∙ said;
       arguments = sym fits ∙ ap arguments_of is;
       under = refl;
     })
-    (goal-earlier old mid (state old) count (goal_alone mid.context.trees p) (table_of old) U l
-    (subst (λ (q : State × GoalTable Via). GoalStays mid q.0 count (goal_alone mid.context.trees p) q.1 U) (λ i. (s i, u i)) h))
+    (goal-earlier old mid (state old) effort (goal_alone mid.context.trees p) (table_of old) U l
+    (subst (λ (q : State × GoalTable Via). GoalStays mid q.0 effort (goal_alone mid.context.trees p) q.1 U) (λ i. (s i, u i)) h))
 
 -- A probe that was open meanwhile changes nothing of it.
-pub clause-probed : (old began ran new : Evaluator) (count : ℕ) (t : Tree) → IsLater old began → fixed began ≡ fixed old → state began ≡ state old → fixed new ≡ fixed ran
-    → ClauseStays began (state began) count (resolved_tree (state began) t) (table_of began) (table_of ran)
-    → ClauseStays old (state old) count (resolved_tree (state old) t) (table_of old) (table_of new)
-clause-probed old began ran new count t l f s n h =
+pub clause-probed : (old began ran new : Evaluator) (effort : Effort) (t : Tree) → IsLater old began → fixed began ≡ fixed old → state began ≡ state old → fixed new ≡ fixed ran
+    → ClauseStays began (state began) effort (resolved_tree (state began) t) (table_of began) (table_of ran)
+    → ClauseStays old (state old) effort (resolved_tree (state old) t) (table_of old) (table_of new)
+clause-probed old began ran new effort t l f s n h =
     let u : table_of began ≡ table_of old = ap (λ (x : Fixed). x.table) f in
     let v : table_of ran ≡ table_of new = sym (ap (λ (x : Fixed). x.table) n) in
-    clause-earlier old began (state old) count (resolved_tree (state old) t) (table_of old) (table_of new) l
-    (subst (λ (q : State × GoalTable Via × GoalTable Via). ClauseStays began q.0 count (resolved_tree q.0 t) q.1 q.2) (λ i. (s i, u i, v i)) h)
+    clause-earlier old began (state old) effort (resolved_tree (state old) t) (table_of old) (table_of new) l
+    (subst (λ (q : State × GoalTable Via × GoalTable Via). ClauseStays began q.0 effort (resolved_tree q.0 t) q.1 q.2) (λ i. (s i, u i, v i)) h)
 
 -- Several clauses
 
 -- one more, asked by a later evaluator
-pub one-more : (old mid : Evaluator) (count : ℕ) (locals : Args) (xs : List Clause) (n : ℕ) (x : Clause) (T U : GoalTable Via) → StaysBesideTable old mid → IsArgs old.context.trees locals
-    → ClauseListFits old.context.trees xs → SoManyStay old (state old) count (args_forest old.context.trees locals) xs T n (table_of mid) → slice_get xs n ≡ Some x
-    → StaysHere mid (state mid) count (args_forest mid.context.trees locals) x (table_of mid) U → SoManyStay old (state old) count (args_forest old.context.trees locals) xs T (n + 1) U
-one-more old mid count locals xs n x T U stays a fit before is h =
+pub one-more : (old mid : Evaluator) (effort : Effort) (locals : Args) (xs : List Clause) (n : ℕ) (x : Clause) (T U : GoalTable Via) → StaysBesideTable old mid → IsArgs old.context.trees locals
+    → ClauseListFits old.context.trees xs → SoManyStay old (state old) effort (args_forest old.context.trees locals) xs T n (table_of mid) → slice_get xs n ≡ Some x
+    → StaysHere mid (state mid) effort (args_forest mid.context.trees locals) x (table_of mid) U → SoManyStay old (state old) effort (args_forest old.context.trees locals) xs T (n + 1) U
+one-more old mid effort locals xs n x T U stays a fit before is h =
     let e = instance-kept old.context mid.context locals x stays.grows a (got-fits old.context.trees xs n x fit is) in
     let s = stays.state_same in
     let next : suc n ≡ n + 1 = omega (arith) in
-    subst (λ k. SoManyStay old (state old) count (args_forest old.context.trees locals) xs T k U) next
+    subst (λ k. SoManyStay old (state old) effort (args_forest old.context.trees locals) xs T k U) next
     (one_asked x before is
-    (clause-earlier old mid (state old) count (clause_at old.context (state old) (args_forest old.context.trees locals) x) (table_of mid) U (later-table stays)
-    (subst (λ (q : State × Tree). ClauseStays mid q.0 count (resolved_tree q.0 q.1) (table_of mid) U) (λ i. (s i, e i)) h)))
+    (clause-earlier old mid (state old) effort (clause_at old.context (state old) (args_forest old.context.trees locals) x) (table_of mid) U (later-table stays)
+    (subst (λ (q : State × Tree). ClauseStays mid q.0 effort (resolved_tree q.0 q.1) (table_of mid) U) (λ i. (s i, e i)) h)))
 
 -- the trees of the clauses are those of an earlier context
 abbrev pub AreClausesOf : Context → Context → List Clause → Type 0
@@ -235,62 +236,62 @@ pub clauses-kept : (old new : Context) (xs : List Clause) → Grows old new → 
 clauses-kept old new xs g fit = λ n x is. (clause-kept old new x g (got-fits old.trees xs n x fit is)).1
 
 -- Clauses of which an earlier evaluator has the trees stay of it, for the same state and tables.
-pub so-many-said : (old mid : Evaluator) (S : State) (count : ℕ) (locals : Forest) (xs : List Clause) (T : GoalTable Via) (n : ℕ) (U : GoalTable Via) → IsLater old mid
-    → AreClausesOf old.context mid.context xs → SoManyStay mid S count locals xs T n U → SoManyStay old S count locals xs T n U
-so-many-said old mid S count locals xs T zero U l same none_asked = none_asked
-so-many-said old mid S count locals xs T (suc n) V l same (one_asked {U = U} x before is h) =
+pub so-many-said : (old mid : Evaluator) (S : State) (effort : Effort) (locals : Forest) (xs : List Clause) (T : GoalTable Via) (n : ℕ) (U : GoalTable Via) → IsLater old mid
+    → AreClausesOf old.context mid.context xs → SoManyStay mid S effort locals xs T n U → SoManyStay old S effort locals xs T n U
+so-many-said old mid S effort locals xs T zero U l same none_asked = none_asked
+so-many-said old mid S effort locals xs T (suc n) V l same (one_asked {U = U} x before is h) =
     let e = ap (substituted_tree locals) (same n x is) in
-    one_asked x (so-many-said old mid S count locals xs T n U l same before) is
-    (clause-earlier old mid S count (clause_at old.context S locals x) U V l (subst (λ (t : Tree). ClauseStays mid S count (resolved_tree S t) U V) e h))
+    one_asked x (so-many-said old mid S effort locals xs T n U l same before) is
+    (clause-earlier old mid S effort (clause_at old.context S locals x) U V l (subst (λ (t : Tree). ClauseStays mid S effort (resolved_tree S t) U V) e h))
 
 -- Those of an open impl, and of both
-impl-earlier : (old mid : Evaluator) (S : State) (count : ℕ) (o : Opened) (T U : GoalTable Via) → IsLater old mid → IsOpen old.context.trees o → ImplStays mid S count o T U → ImplStays old S count o T U
-impl-earlier old mid S count o T U l known h =
+impl-earlier : (old mid : Evaluator) (S : State) (effort : Effort) (o : Opened) (T U : GoalTable Via) → IsLater old mid → IsOpen old.context.trees o → ImplStays mid S effort o T U → ImplStays old S effort o T U
+impl-earlier old mid S effort o T U l known h =
     let xs = o.wheres.items in
     let ls = args_forest old.context.trees o.locals in
-    so-many-said old mid S count ls xs T (length xs) U l (clauses-kept old.context mid.context xs l.grows known.2.fit)
-    (subst (λ (f : Forest). AllStay mid S count f xs T U) (args-kept old.context mid.context o.locals l.grows known.0).1 h)
+    so-many-said old mid S effort ls xs T (length xs) U l (clauses-kept old.context mid.context xs l.grows known.2.fit)
+    (subst (λ (f : Forest). AllStay mid S effort f xs T U) (args-kept old.context mid.context o.locals l.grows known.0).1 h)
 
-pub both-earlier : (old mid : Evaluator) (S : State) (count : ℕ) (p : Pair) (T U : GoalTable Via) → IsLater old mid → AreOpen old.context.trees p → BothStay mid S count p T U → BothStay old S count p T U
-both-earlier old mid S count p T U l known h = record {
+pub both-earlier : (old mid : Evaluator) (S : State) (effort : Effort) (p : Pair) (T U : GoalTable Via) → IsLater old mid → AreOpen old.context.trees p → BothStay mid S effort p T U → BothStay old S effort p T U
+both-earlier old mid S effort p T U l known h = record {
   between = h.between;
-  first = impl-earlier old mid S count p.first T h.between l known.0 h.first;
-  second = impl-earlier old mid S count p.second h.between U l known.1 h.second;
+  first = impl-earlier old mid S effort p.first T h.between l known.0 h.first;
+  second = impl-earlier old mid S effort p.second h.between U l known.1 h.second;
 }
 
 -- as many as there are before one
-first-earlier : (old mid : Evaluator) (S : State) (count : ℕ) (o : Opened) (T : GoalTable Via) (n : ℕ) → IsLater old mid → IsOpen old.context.trees o
-    → FirstStay mid S count (args_forest mid.context.trees o.locals) o.wheres.items T n → FirstStay old S count (args_forest old.context.trees o.locals) o.wheres.items T n
-first-earlier old mid S count o T n l known (U, h) = (
+first-earlier : (old mid : Evaluator) (S : State) (effort : Effort) (o : Opened) (T : GoalTable Via) (n : ℕ) → IsLater old mid → IsOpen old.context.trees o
+    → FirstStay mid S effort (args_forest mid.context.trees o.locals) o.wheres.items T n → FirstStay old S effort (args_forest old.context.trees o.locals) o.wheres.items T n
+first-earlier old mid S effort o T n l known (U, h) = (
   U,
-  so-many-said old mid S count (args_forest old.context.trees o.locals) o.wheres.items T n U l (clauses-kept old.context mid.context o.wheres.items l.grows known.2.fit)
-      (subst (λ (f : Forest). SoManyStay mid S count f o.wheres.items T n U) (args-kept old.context mid.context o.locals l.grows known.0).1 h),
+  so-many-said old mid S effort (args_forest old.context.trees o.locals) o.wheres.items T n U l (clauses-kept old.context mid.context o.wheres.items l.grows known.2.fit)
+      (subst (λ (f : Forest). SoManyStay mid S effort f o.wheres.items T n U) (args-kept old.context mid.context o.locals l.grows known.0).1 h),
 )
 
 -- the second asked by a later evaluator
-pub both-stay : (old mid new : Evaluator) (count : ℕ) (p : Pair) → StaysBesideTable old mid → AreOpen old.context.trees p → ImplStays old (state old) count p.first (table_of old) (table_of mid)
-    → ImplStays mid (state mid) count p.second (table_of mid) (table_of new) → BothStay old (state old) count p (table_of old) (table_of new)
-both-stay old mid new count p stays open-pair first second =
+pub both-stay : (old mid new : Evaluator) (effort : Effort) (p : Pair) → StaysBesideTable old mid → AreOpen old.context.trees p → ImplStays old (state old) effort p.first (table_of old) (table_of mid)
+    → ImplStays mid (state mid) effort p.second (table_of mid) (table_of new) → BothStay old (state old) effort p (table_of old) (table_of new)
+both-stay old mid new effort p stays open-pair first second =
     let T = table_of mid in
     record {
       between = T;
       first = first;
       second =
-          impl-earlier old mid (state old) count p.second T (table_of new) (later-table stays) open-pair.1
-          (subst (λ (S : State). ImplStays mid S count p.second T (table_of new)) stays.state_same second);
+          impl-earlier old mid (state old) effort p.second T (table_of new) (later-table stays) open-pair.1
+          (subst (λ (S : State). ImplStays mid S effort p.second T (table_of new)) stays.state_same second);
     }
 
 -- Clauses of the second one as far as that one, asked by a later evaluator behind all of the first
-pub before-of-second : (old mid : Evaluator) (count : ℕ) (p : Pair) (w : WhereClause) → StaysBesideTable old mid → AreOpen old.context.trees p → w.of ≡ p.second.of
-    → ImplStays old (state old) count p.first (table_of old) (table_of mid) → FirstStay mid (state mid) count (args_forest mid.context.trees p.second.locals) p.second.wheres.items (table_of mid) w.number
-    → StayBefore old (state old) count p (table_of old) w
-before-of-second old mid count p w stays open-pair of first second =
+pub before-of-second : (old mid : Evaluator) (effort : Effort) (p : Pair) (w : WhereClause) → StaysBesideTable old mid → AreOpen old.context.trees p → w.of ≡ p.second.of
+    → ImplStays old (state old) effort p.first (table_of old) (table_of mid) → FirstStay mid (state mid) effort (args_forest mid.context.trees p.second.locals) p.second.wheres.items (table_of mid) w.number
+    → StayBefore old (state old) effort p (table_of old) w
+before-of-second old mid effort p w stays open-pair of first second =
     before_of_second (table_of mid) of first
-    (subst (λ (S : State). FirstStay old S count (args_forest old.context.trees p.second.locals) p.second.wheres.items (table_of mid) w.number) stays.state_same
-    (first-earlier old mid (state mid) count p.second (table_of mid) w.number (later-table stays) open-pair.1 second))
+    (subst (λ (S : State). FirstStay old S effort (args_forest old.context.trees p.second.locals) p.second.wheres.items (table_of mid) w.number) stays.state_same
+    (first-earlier old mid (state mid) effort p.second (table_of mid) w.number (later-table stays) open-pair.1 second))
 
-pub before-earlier : (old mid : Evaluator) (S : State) (count : ℕ) (p : Pair) (T : GoalTable Via) (w : WhereClause) → IsLater old mid → AreOpen old.context.trees p → StayBefore mid S count p T w
-    → StayBefore old S count p T w
-before-earlier old mid S count p T w l known (before_of_first of h) = before_of_first of (first-earlier old mid S count p.first T w.number l known.0 h)
-before-earlier old mid S count p T w l known (before_of_second U of first h) =
-    before_of_second U of (impl-earlier old mid S count p.first T U l known.0 first) (first-earlier old mid S count p.second U w.number l known.1 h)
+pub before-earlier : (old mid : Evaluator) (S : State) (effort : Effort) (p : Pair) (T : GoalTable Via) (w : WhereClause) → IsLater old mid → AreOpen old.context.trees p → StayBefore mid S effort p T w
+    → StayBefore old S effort p T w
+before-earlier old mid S effort p T w l known (before_of_first of h) = before_of_first of (first-earlier old mid S effort p.first T w.number l known.0 h)
+before-earlier old mid S effort p T w l known (before_of_second U of first h) =
+    before_of_second U of (impl-earlier old mid S effort p.first T U l known.0 first) (first-earlier old mid S effort p.second U w.number l known.1 h)

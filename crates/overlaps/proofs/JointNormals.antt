@@ -53,6 +53,7 @@ use Rattle.overlaps.specs.Stopping.{IsLater, IsOverlapStop, step_normalizing}
 use Rattle.overlaps.specs.Together.{AreLeft, CameOf, HasYes, IsGivenAs, IsNormalAt, IsNormalUnder, IsObligation, IsOfProjection, IsProjectedAs, IsProjectionType, Obligation, StandsIn, gives_at, next_type, pending_at, pendings_at, with_type}
 use Rattle.overlaps.specs.declared.together.ProjectionType.{ProjectionType}
 use Rattle.overlaps.specs.declared.together.ProjectionType.TheVariants as P
+use Rattle.candidate_rounds.specs.declared.rounds.effort.Effort.{Effort}
 
 pub alias-args : (ts : List Tree) (a : AliasTy) → KindFits ts (K.Alias a) → IsArgs ts a.args
 alias-args ts a f = cc
@@ -88,7 +89,7 @@ normal-at old mid env a response known stays env-fits fits came sure gives =
       under = (env-kept old.context by.context env g env-fits).1;
       alias = a;
       is = alias-tree-kept old.context by.context a g fits;
-      rounds = came.rounds;
+      effort = came.effort;
       table = table_of mid;
       trees = mid.context.trees;
       response = response;
@@ -140,10 +141,10 @@ trait-key-later r s old e a p stays grows by h =
 
 -- What normalising it answers, and why it stops.
 
-pub came-of : (old by new : Evaluator) (e : ParamEnv) (a : AliasTy) (n : ℕ) (r : Result (Option CanonicalResponse) Stop) → StaysBesideTable old by
+pub came-of : (old by new : Evaluator) (e : ParamEnv) (a : AliasTy) (n : Effort) (r : Result (Option CanonicalResponse) Stop) → StaysBesideTable old by
     → HasYes (sure_of by) (key_at (state by) (goal_of_trait by.context e a)) → IsOfProjection by.context e a → IsNormalized new.context.trees by e a n (table_of new) r
     → IfOk r (λ o. IfSome o (CameOf old new e a))
-came-of old by new e a n (Ok (Some x)) stays holds is h = record { by = by; later = later-table stays; stands = stays.state_same; rounds = n; trait_holds = holds; comes = h; of_instances = is }
+came-of old by new e a n (Ok (Some x)) stays holds is h = record { by = by; later = later-table stays; stands = stays.state_same; effort = n; trait_holds = holds; comes = h; of_instances = is }
 came-of old by new e a n (Ok None) stays holds is h = tt
 came-of old by new e a n (Err s) stays holds is h = tt
 
@@ -158,7 +159,7 @@ of-projection c d e a p g is never = λ some.
       never = subst (λ (q : TraitPredicate). HaveVariable (args_forest d.trees q.trait_ref.args) → RestsOnPart d q.trait_ref.def_id → ⊥) same never some;
     }
 
-pub normalizing-stop : (old by new : Evaluator) (e : ParamEnv) (a : AliasTy) (n : ℕ) (r : Result (Option CanonicalResponse) Stop) → IsLater old by
+pub normalizing-stop : (old by new : Evaluator) (e : ParamEnv) (a : AliasTy) (n : Effort) (r : Result (Option CanonicalResponse) Stop) → IsLater old by
     → IsNormalized new.context.trees by e a n (table_of new) r → IfErr r (IsOverlapStop old new)
 normalizing-stop old by new e a n (Ok o) l h = tt
 normalizing-stop old by new e a n (Err s) l h = step-stop l (step_normalizing e a n h)

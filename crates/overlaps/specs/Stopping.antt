@@ -21,6 +21,7 @@ use Rattle.candidate_rounds.specs.Table.Normalizing.{rounds_shown}
 use Rattle.candidate_rounds.specs.Table.Projected.{IsGivingNormalStop}
 use Rattle.candidate_rounds.specs.Table.Running.{IsRunStop, with_table}
 use Rattle.rounds_judge.specs.Table.GoalTable.{GoalTable}
+use Rattle.candidate_rounds.specs.declared.rounds.effort.Effort.{Effort}
 
 -- Why a goal of a trait wasn't computed by a call that was given the first evaluator and left the last: it comes to the stop of a rule, or the
 -- evaluator stopped of itself and accounts for it.
@@ -37,7 +38,7 @@ pub data IsStepStop (first : Evaluator) (ts : List Tree) (T : GoalTable Via) (s 
   step_key : (g : TraitGoal) → IsGoalKeyStop ts (state first) g s → IsStepStop first ts T s
   step_run : (g : TraitGoal) → IsRunStop ts first g T s → IsStepStop first ts T s
   step_computing : (g : TraitGoal) (last : Evaluator) → Extends last.context.trees ts → IsGoalStop rounds_shown first last g s → IsStepStop first ts T s
-  step_normalizing : (env : ParamEnv) (alias : AliasTy) (rounds : ℕ) → IsNormalized ts first env alias rounds T (Err s) → IsStepStop first ts T s
+  step_normalizing : (env : ParamEnv) (alias : AliasTy) (effort : Effort) → IsNormalized ts first env alias effort T (Err s) → IsStepStop first ts T s
   step_giving : (g : TraitGoal) (a : Response) → IsGivingNormalStop ts (listing first) (state first) g a s → IsStepStop first ts T s
   step_numbering : (f : Forest) → IsCanonicalStop ts f s → IsStepStop first ts T s
 

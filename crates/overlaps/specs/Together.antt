@@ -51,6 +51,7 @@ use Rattle.overlaps.specs.declared.opening.Opened.{Opened}
 use Rattle.overlaps.specs.declared.opening.Pair.{Pair}
 use Rattle.overlaps.specs.declared.together.ProjectionType.{ProjectionType}
 use Rattle.overlaps.specs.declared.together.ProjectionType.TheVariants as P
+use Rattle.candidate_rounds.specs.declared.rounds.effort.Effort.{Effort}
 
 -- The tree is one of the trees, or stands below one of them.
 pub data StandsIn (t : Tree) : Forest → Type 0 where
@@ -119,12 +120,12 @@ pub record IsNormalUnder (r : Evaluator) (S : State) (e : Env) (projection : Tre
   pub under : env_forest by.context.trees env ≡ e
   pub alias : AliasTy
   pub is : kind_tree by.context.trees (kind.Alias alias) ≡ projection
-  pub rounds : ℕ
+  pub effort : Effort
   pub table : GoalTable Via
   pub trees : List Tree
   pub response : CanonicalResponse
   pub trait_holds : HasYes (sure_of by) (key_at S (goal_of_trait by.context env alias))
-  pub comes : IsNormalized trees by env alias rounds table (Ok (Some response))
+  pub comes : IsNormalized trees by env alias effort table (Ok (Some response))
   pub sure : response.certainty ≡ Yes
   pub of_instances : IsOfProjection by.context env alias
   pub gives : with_normal (listing by) S (goal_of_trait by.context env alias) (response_of trees response) ≡ known
@@ -197,14 +198,14 @@ IsProjectedAs old new e projection P.Impossible = IsNormalUnder old (state old) 
 IsProjectedAs old new e projection (P.Type type) =
     IsNormalUnder old (state old) e projection (Some (state new)) × HasTree new.context.trees type (next_type (state old))
 
--- That response came of normalising the projection in some rounds, where the state stayed and the goal of its trait holds.
+-- That response came of normalising the projection by some effort, where the state stayed and the goal of its trait holds.
 pub record CameOf (old new : Evaluator) (env : ParamEnv) (alias : AliasTy) (response : CanonicalResponse) : Type 0 where
   pub by : Evaluator
   pub later : IsLater old by
   pub stands : state by ≡ state old
-  pub rounds : ℕ
+  pub effort : Effort
   pub trait_holds : HasYes (sure_of by) (key_at (state by) (goal_of_trait by.context env alias))
-  pub comes : IsNormalized new.context.trees by env alias rounds (table_of new) (Ok (Some response))
+  pub comes : IsNormalized new.context.trees by env alias effort (table_of new) (Ok (Some response))
   pub of_instances : IsOfProjection by.context env alias
 
 -- What a response says of a projection was given, if it is sure.

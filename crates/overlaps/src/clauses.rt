@@ -17,12 +17,14 @@ ghost use Rattle.candidate_rounds.specs.Table.Running.{StaysBesideTable};
 ghost use Rattle.overlaps.specs.Asked.{AllStay, DecidesNothing, FirstStay, GoalStays, StaysHere, WasTried};
 ghost use Rattle.overlaps.specs.Stopping.{IsOverlapStop};
 ghost use Rattle.overlaps.specs.Refused.{goal_alone, RefusesHere, RefusesInstances, RefusesOne, StaysBesideKnown};
+ghost use Rattle.candidate_rounds.specs.Table.Efforts.{IsEffort};
 
 use crate::auto::refuses_instances;
 use crate::plain::{is_in_coherence, is_refused, is_resolved, is_without_aliases};
 use candidate_eval::eval::clauses::{predicate_in, substitute};
 use candidate_eval::eval::context::{EvalCtxt, ProbeKind};
 use candidate_rounds::rounds::Rounds;
+use candidate_rounds::rounds::effort::Effort;
 use ir_context::decl::make::Make;
 use ir_trees::ir::kinds::{Args, Clause, ParamEnv, TraitPredicate};
 use ir_trees::ir::stop::Stop;
@@ -61,21 +63,21 @@ pub fn may_decide(
     Ok(rounds.stands_here(alloc, env, predicate))
 }
 
-/// Runs the goal for so many rounds where it stands at what is known, so that the table has what it comes to.
+/// Runs the goal by that effort where it stands at what is known, so that the table has what it comes to.
 fn run_where_it_stands(
     alloc: Global,
     rounds: &mut Rounds,
     env: ParamEnv,
     predicate: TraitPredicate,
-    count: u16,
+    effort: Effort,
 ) -> Result<(), Stop>
-    requires some { 0 < count }
+    requires some { IsEffort effort }
     requires env { IsParamEnv rounds.old.context.trees env }
     requires empty { env_forest rounds.old.context.trees env ≡ none }
     requires args { IsArgs rounds.old.context.trees predicate.trait_ref.args }
     requires fit { ArgumentsFit rounds.old.context predicate.trait_ref }
     ensures stays { StaysBesideTable rounds.old rounds.new }
-    ensures tried { let r = rounds.old in OnOk result (WasTried r (state r) count (goal_alone r.context.trees predicate) (table_of r) (table_of rounds.new)) }
+    ensures tried { let r = rounds.old in OnOk result (WasTried r (state r) effort (goal_alone r.context.trees predicate) (table_of r) (table_of rounds.new)) }
     ensures cause { IfErr result (IsOverlapStop rounds.old rounds.new) }
 {
     if !rounds.stands_here(alloc, env, predicate) {
@@ -84,20 +86,20 @@ fn run_where_it_stands(
     if !rounds.may_be_run(alloc, env, predicate)? {
         return Ok(());
     }
-    let _verdict = rounds.run(alloc, env, predicate, count)?;
+    let _verdict = rounds.run_by(alloc, env, predicate, effort)?;
     Ok(())
 }
 
-/// Whether the goal is refused in so many rounds, where it is asked for in coherence and may decide, and each of its instances is, as far as
+/// Whether the goal is refused by that effort, where it is asked for in coherence and may decide, and each of its instances is, as far as
 /// auto traits go.
 fn is_refused_in_coherence(
     alloc: Global,
     rounds: &mut Rounds,
     env: ParamEnv,
     predicate: TraitPredicate,
-    count: u16,
+    effort: Effort,
 ) -> Result<bool, Stop>
-    requires some { 0 < count }
+    requires some { IsEffort effort }
     requires env { IsParamEnv rounds.old.context.trees env }
     requires empty { env_forest rounds.old.context.trees env ≡ none }
     requires args { IsArgs rounds.old.context.trees predicate.trait_ref.args }
@@ -106,7 +108,7 @@ fn is_refused_in_coherence(
     requires coherence { (state rounds.old).mode ≡ mode.Coherence }
     ensures stays { StaysBesideKnown rounds.old rounds.new }
     ensures refused { IfOk result (λ b. b ≡ true → RefusesInstances rounds.old rounds.new predicate) }
-    ensures asked { let r = rounds.old in IfOk result (λ b. b ≡ false → GoalStays r (state r) count (goal_alone r.context.trees predicate) (table_of r) (table_of rounds.new)) }
+    ensures asked { let r = rounds.old in IfOk result (λ b. b ≡ false → GoalStays r (state r) effort (goal_alone r.context.trees predicate) (table_of r) (table_of rounds.new)) }
     ensures cause { IfErr result (IsOverlapStop rounds.old rounds.new) }
 {
     if !may_decide(alloc, rounds, env, predicate)? {
@@ -115,7 +117,7 @@ fn is_refused_in_coherence(
     if !rounds.may_be_run(alloc, env, predicate)? {
         return Ok(false);
     }
-    rounds.run(alloc, env, predicate, count)?;
+    rounds.run_by(alloc, env, predicate, effort)?;
     if !is_refused(alloc, rounds, env, predicate)? {
         return Ok(false);
     }
@@ -128,9 +130,9 @@ pub(crate) fn is_predicate_refused(
     rounds: &mut Rounds,
     env: ParamEnv,
     predicate: TraitPredicate,
-    count: u16,
+    effort: Effort,
 ) -> Result<bool, Stop>
-    requires some { 0 < count }
+    requires some { IsEffort effort }
     requires env { IsParamEnv rounds.old.context.trees env }
     requires empty { env_forest rounds.old.context.trees env ≡ none }
     requires args { IsArgs rounds.old.context.trees predicate.trait_ref.args }
@@ -138,17 +140,17 @@ pub(crate) fn is_predicate_refused(
     requires pending { (state rounds.old).pending ≡ [] }
     ensures stays { StaysBesideKnown rounds.old rounds.new }
     ensures refused { IfOk result (λ b. b ≡ true → RefusesInstances rounds.old rounds.new predicate) }
-    ensures asked { let r = rounds.old in IfOk result (λ b. b ≡ false → GoalStays r (state r) count (goal_alone r.context.trees predicate) (table_of r) (table_of rounds.new)) }
+    ensures asked { let r = rounds.old in IfOk result (λ b. b ≡ false → GoalStays r (state r) effort (goal_alone r.context.trees predicate) (table_of r) (table_of rounds.new)) }
     ensures cause { IfErr result (IsOverlapStop rounds.old rounds.new) }
 {
     if !is_in_coherence(rounds) {
-        run_where_it_stands(alloc, rounds, env, predicate, count)?;
+        run_where_it_stands(alloc, rounds, env, predicate, effort)?;
         return Ok(false);
     }
-    is_refused_in_coherence(alloc, rounds, env, predicate, count)
+    is_refused_in_coherence(alloc, rounds, env, predicate, effort)
 }
 
-/// Whether a where clause is refused in so many rounds, with what stands for the parameters put in and all values; one that says nothing of
+/// Whether a where clause is refused by that effort, with what stands for the parameters put in and all values; one that says nothing of
 /// a trait isn't.
 fn is_clause_refused(
     alloc: Global,
@@ -156,9 +158,9 @@ fn is_clause_refused(
     env: ParamEnv,
     clause: Clause,
     locals: Args,
-    count: u16,
+    effort: Effort,
 ) -> Result<bool, Stop>
-    requires some { 0 < count }
+    requires some { IsEffort effort }
     requires env { IsParamEnv rounds.old.context.trees env }
     requires empty { env_forest rounds.old.context.trees env ≡ none }
     requires clause { IsClause rounds.old.context.trees clause }
@@ -167,7 +169,7 @@ fn is_clause_refused(
     requires there { tree_holds (lacks_argument (args_forest rounds.old.context.trees locals)) (clause_tree rounds.old.context.trees clause) ≡ false }
     ensures stays { StaysBesideKnown rounds.old rounds.new }
     ensures refused { let ts = rounds.old.context.trees in IfOk result (λ b. b ≡ true → RefusesHere rounds.old rounds.new (substituted_tree (args_forest ts locals) (clause_tree ts clause))) }
-    ensures asked { let r = rounds.old in IfOk result (λ b. b ≡ false → StaysHere r (state r) count (args_forest r.context.trees locals) clause (table_of r) (table_of rounds.new)) }
+    ensures asked { let r = rounds.old in IfOk result (λ b. b ≡ false → StaysHere r (state r) effort (args_forest r.context.trees locals) clause (table_of r) (table_of rounds.new)) }
     ensures cause { IfErr result (IsOverlapStop rounds.old rounds.new) }
 {
     let clause = substitute(alloc, rounds, clause, locals)?;
@@ -175,7 +177,7 @@ fn is_clause_refused(
     let Some(predicate) = predicate_in(rounds.cx(), clause) else {
         return Ok(false);
     };
-    is_predicate_refused(alloc, rounds, env, predicate, count)
+    is_predicate_refused(alloc, rounds, env, predicate, effort)
 }
 
 /// Whether the clause is refused, asked in a probe, so that what is known stays.
@@ -185,9 +187,9 @@ fn probe_clause(
     env: ParamEnv,
     clause: Clause,
     locals: Args,
-    count: u16,
+    effort: Effort,
 ) -> Result<bool, Stop>
-    requires some { 0 < count }
+    requires some { IsEffort effort }
     requires env { IsParamEnv rounds.old.context.trees env }
     requires empty { env_forest rounds.old.context.trees env ≡ none }
     requires clause { IsClause rounds.old.context.trees clause }
@@ -196,25 +198,25 @@ fn probe_clause(
     requires there { tree_holds (lacks_argument (args_forest rounds.old.context.trees locals)) (clause_tree rounds.old.context.trees clause) ≡ false }
     ensures stays { StaysBesideTable rounds.old rounds.new }
     ensures refused { let ts = rounds.old.context.trees in IfOk result (λ b. b ≡ true → RefusesHere rounds.old rounds.new (substituted_tree (args_forest ts locals) (clause_tree ts clause))) }
-    ensures asked { let r = rounds.old in IfOk result (λ b. b ≡ false → StaysHere r (state r) count (args_forest r.context.trees locals) clause (table_of r) (table_of rounds.new)) }
+    ensures asked { let r = rounds.old in IfOk result (λ b. b ≡ false → StaysHere r (state r) effort (args_forest r.context.trees locals) clause (table_of r) (table_of rounds.new)) }
     ensures cause { IfErr result (IsOverlapStop rounds.old rounds.new) }
 {
     let probe = rounds.begin_probe(ProbeKind::Kept)?;
-    let answer = is_clause_refused(alloc, rounds, env, clause, locals, count);
+    let answer = is_clause_refused(alloc, rounds, env, clause, locals, effort);
     rounds.end_probe(probe);
     answer
 }
 
-/// The number of the first of the where clauses that is refused in so many rounds, with what stands for the parameters put in.
+/// The number of the first of the where clauses that is refused by that effort, with what stands for the parameters put in.
 pub(crate) fn first_refused(
     alloc: Global,
     rounds: &mut Rounds,
     env: ParamEnv,
     clauses: &[Clause],
     locals: Args,
-    count: u16,
+    effort: Effort,
 ) -> Result<Option<usize>, Stop>
-    requires some { 0 < count }
+    requires some { IsEffort effort }
     requires env { IsParamEnv rounds.old.context.trees env }
     requires empty { env_forest rounds.old.context.trees env ≡ none }
     requires pending { (state rounds.old).pending ≡ [] }
@@ -222,12 +224,12 @@ pub(crate) fn first_refused(
     requires clauses { ClausesAreOwned rounds.old.context.trees (args_forest rounds.old.context.trees locals) clauses.now }
     ensures stays { StaysBesideTable rounds.old rounds.new }
     ensures refused { let ts = rounds.old.context.trees in IfOk result (λ o. IfSome o (RefusesOne rounds.old rounds.new (args_forest ts locals) clauses.now)) }
-    ensures asked { let r = rounds.old in IfOk result (λ o. o ≡ None → AllStay r (state r) count (args_forest r.context.trees locals) clauses.now (table_of r) (table_of rounds.new)) }
-    ensures before { let r = rounds.old in IfOk result (λ o. IfSome o (FirstStay r (state r) count (args_forest r.context.trees locals) clauses.now (table_of r))) }
+    ensures asked { let r = rounds.old in IfOk result (λ o. o ≡ None → AllStay r (state r) effort (args_forest r.context.trees locals) clauses.now (table_of r) (table_of rounds.new)) }
+    ensures before { let r = rounds.old in IfOk result (λ o. IfSome o (FirstStay r (state r) effort (args_forest r.context.trees locals) clauses.now (table_of r))) }
     ensures cause { IfErr result (IsOverlapStop rounds.old rounds.new) }
 {
     for number in 0..clauses.len() {
-        if probe_clause(alloc, rounds, env, clauses[number], locals, count)? {
+        if probe_clause(alloc, rounds, env, clauses[number], locals, effort)? {
             return Ok(Some(number));
         }
     }

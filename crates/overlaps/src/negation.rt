@@ -25,6 +25,7 @@ ghost use Rattle.overlaps.specs.Apart.{OfDeclared, aside};
 ghost use Rattle.overlaps.specs.Negated.{AreImplied, ArePlugged, ClauseIsNegated, IsDenied, IsEnvironmentAt, IsKeptApart, IsNegatedBy, IsNegatedFrom, IsNegatedOfPair, IsNegatedUnder, MayBePlugged, OneIsDeniedHere, OneIsNegated, both_forests, clauses_at, turned};
 ghost use Rattle.overlaps.specs.Refused.{AreOpen, IsOpen, StaysBesideKnown, clause_at};
 ghost use Rattle.overlaps.specs.Stopping.{IsOverlapStop};
+ghost use Rattle.candidate_rounds.specs.Table.Efforts.{IsEffort};
 
 use crate::answered::is_predicate_answered;
 use crate::opening::{Opened, Pair, open_both, placeholder_args_for_impl};
@@ -36,6 +37,7 @@ use candidate_eval::eval::clauses::{predicate_in, substitute};
 use candidate_eval::eval::context::{EvalCtxt, ProbeKind};
 use candidate_eval::eval::refusal::NoSolutionOrStop;
 use candidate_rounds::rounds::Rounds;
+use candidate_rounds::rounds::effort::Effort;
 use candidate_rounds::rounds::goals::Verdict;
 use ir_context::decl::Cx;
 use ir_context::decl::make::{Build, Make};
@@ -219,16 +221,16 @@ fn is_answered_for_all(
     is_predicate_answered(alloc, rounds, env, predicate)
 }
 
-/// Whether it is known that what the clause says of a trait is not so: in so many rounds the opposite comes to a Yes that says nothing of any
+/// Whether it is known that what the clause says of a trait is not so: by that effort the opposite comes to a Yes that says nothing of any
 /// variable.
 fn is_negation_answered(
     alloc: Global,
     rounds: &mut Rounds,
     env: ParamEnv,
     clause: Clause,
-    count: u16,
+    effort: Effort,
 ) -> Result<bool, Stop>
-    requires some { 0 < count }
+    requires some { IsEffort effort }
     requires env { IsParamEnv rounds.old.context.trees env }
     requires clause { IsClause rounds.old.context.trees clause }
     ensures stays { StaysBesideTable rounds.old rounds.new }
@@ -239,7 +241,7 @@ fn is_negation_answered(
         return Ok(false);
     };
     let opposite = negated(predicate);
-    run_predicate(alloc, rounds, env, opposite, count)?;
+    run_predicate(alloc, rounds, env, opposite, effort)?;
     is_answered_for_all(alloc, rounds, env, opposite)
 }
 
@@ -249,9 +251,9 @@ fn is_one_negated(
     rounds: &mut Rounds,
     env: ParamEnv,
     clauses: &[Clause],
-    count: u16,
+    effort: Effort,
 ) -> Result<bool, Stop>
-    requires some { 0 < count }
+    requires some { IsEffort effort }
     requires env { IsParamEnv rounds.old.context.trees env }
     requires clauses { ClauseListFits rounds.old.context.trees clauses.now }
     ensures stays { StaysBesideTable rounds.old rounds.new }
@@ -259,7 +261,7 @@ fn is_one_negated(
     ensures cause { IfErr result (IsOverlapStop rounds.old rounds.new) }
 {
     for number in 0..clauses.len() {
-        if is_negation_answered(alloc, rounds, env, clauses[number], count)? {
+        if is_negation_answered(alloc, rounds, env, clauses[number], effort)? {
             return Ok(true);
         }
     }
@@ -313,9 +315,9 @@ fn is_clause_negated(
     env: ParamEnv,
     clause: Clause,
     locals: Args,
-    count: u16,
+    effort: Effort,
 ) -> Result<bool, Stop>
-    requires some { 0 < count }
+    requires some { IsEffort effort }
     requires env { IsParamEnv rounds.old.context.trees env }
     requires clause { IsClause rounds.old.context.trees clause }
     requires locals { IsArgs rounds.old.context.trees locals }
@@ -325,7 +327,7 @@ fn is_clause_negated(
     ensures cause { IfErr result (IsOverlapStop rounds.old rounds.new) }
 {
     let implied = implied_by(alloc, rounds, clause, locals)?;
-    is_one_negated(alloc, rounds, env, implied.as_slice(), count)
+    is_one_negated(alloc, rounds, env, implied.as_slice(), effort)
 }
 
 /// The number of the first of the where clauses of which this is known.
@@ -335,9 +337,9 @@ fn first_negated(
     env: ParamEnv,
     clauses: &[Clause],
     locals: Args,
-    count: u16,
+    effort: Effort,
 ) -> Result<Option<usize>, Stop>
-    requires some { 0 < count }
+    requires some { IsEffort effort }
     requires env { IsParamEnv rounds.old.context.trees env }
     requires locals { IsArgs rounds.old.context.trees locals }
     requires clauses { ClausesAreOwned rounds.old.context.trees (args_forest rounds.old.context.trees locals) clauses.now }
@@ -346,7 +348,7 @@ fn first_negated(
     ensures cause { IfErr result (IsOverlapStop rounds.old rounds.new) }
 {
     for number in 0..clauses.len() {
-        if is_clause_negated(alloc, rounds, env, clauses[number], locals, count)? {
+        if is_clause_negated(alloc, rounds, env, clauses[number], locals, effort)? {
             return Ok(Some(number));
         }
     }
@@ -395,9 +397,9 @@ fn negated_under(
     alloc: Global,
     rounds: &mut Rounds,
     pair: &Pair,
-    count: u16,
+    effort: Effort,
 ) -> Result<Option<usize>, Stop>
-    requires some { 0 < count }
+    requires some { IsEffort effort }
     requires pair { AreOpen rounds.old.context.trees pair.now }
     ensures stays { StaysBesideTable rounds.old rounds.new }
     ensures negated { IfOk result (λ o. IfSome o (IsNegatedUnder rounds.old (sure_of rounds.new) pair.now)) }
@@ -406,7 +408,7 @@ fn negated_under(
     let env = environment_here(alloc, rounds, &pair.first)?;
     let second = &pair.second;
     let clauses = second.wheres.as_slice();
-    first_negated(alloc, rounds, env, clauses, second.locals, count)
+    first_negated(alloc, rounds, env, clauses, second.locals, effort)
 }
 
 /// Which where clause is known not to hold, of two open impls whose headers are equal, and whose variables become these placeholders.
@@ -416,9 +418,9 @@ fn negated_where_equal(
     env: ParamEnv,
     pair: &Pair,
     placeholders: (Args, Args),
-    count: u16,
+    effort: Effort,
 ) -> Result<Option<usize>, Stop>
-    requires some { 0 < count }
+    requires some { IsEffort effort }
     requires env { IsParamEnv rounds.old.context.trees env }
     requires empty { env_forest rounds.old.context.trees env ≡ none }
     requires pair { AreOpen rounds.old.context.trees pair.now }
@@ -430,7 +432,7 @@ fn negated_where_equal(
 {
     plug(rounds, env, pair.first.locals, placeholders.0)?;
     plug(rounds, env, pair.second.locals, placeholders.1)?;
-    negated_under(alloc, rounds, pair, count)
+    negated_under(alloc, rounds, pair, effort)
 }
 
 /// Which where clause is known not to hold, of two open impls, whose headers are made equal, and whose variables become these placeholders then.
@@ -439,9 +441,9 @@ fn negated_of_pair(
     rounds: &mut Rounds,
     pair: &Pair,
     placeholders: (Args, Args),
-    count: u16,
+    effort: Effort,
 ) -> Result<Option<usize>, Stop>
-    requires some { 0 < count }
+    requires some { IsEffort effort }
     requires pair { AreOpen rounds.old.context.trees pair.now }
     requires first { IsArgs rounds.old.context.trees placeholders.0 }
     requires second { IsArgs rounds.old.context.trees placeholders.1 }
@@ -461,7 +463,7 @@ fn negated_of_pair(
     if leaks {
         return Ok(None);
     }
-    negated_where_equal(alloc, rounds, env, pair, placeholders, count)
+    negated_where_equal(alloc, rounds, env, pair, placeholders, effort)
 }
 
 /// Which where clause is known not to hold, of two impls, where what is found to be known stays known. The placeholders come first, so that variables may be them.
@@ -470,9 +472,9 @@ fn negated_here(
     rounds: &mut Rounds,
     first: ImplId,
     second: ImplId,
-    count: u16,
+    effort: Effort,
 ) -> Result<Option<usize>, Stop>
-    requires some { 0 < count }
+    requires some { IsEffort effort }
     ensures stays { StaysBesideKnown rounds.old rounds.new }
     ensures negated { let r = rounds.old in IfOk result (λ o. IfSome o (λ n. OfDeclared r.context first second (IsNegatedBy r (state r) (sure_of rounds.new) n))) }
     ensures cause { IfErr result (IsOverlapStop rounds.old rounds.new) }
@@ -484,7 +486,7 @@ fn negated_here(
     let Some(pair) = open_both(alloc, rounds, first, second)? else {
         return Ok(None);
     };
-    negated_of_pair(alloc, rounds, &pair, (of_first, of_second), count)
+    negated_of_pair(alloc, rounds, &pair, (of_first, of_second), effort)
 }
 
 /// Which where clause is known not to hold, in a probe in which nothing is pending, so that all stays but the table.
@@ -493,15 +495,15 @@ fn negated_aside(
     rounds: &mut Rounds,
     first: ImplId,
     second: ImplId,
-    count: u16,
+    effort: Effort,
 ) -> Result<Option<usize>, Stop>
-    requires some { 0 < count }
+    requires some { IsEffort effort }
     ensures stays { StaysBesideTable rounds.old rounds.new }
     ensures negated { let r = rounds.old in IfOk result (λ o. IfSome o (λ n. OfDeclared r.context first second (IsNegatedBy r (aside (state r)) (sure_of rounds.new) n))) }
     ensures cause { IfErr result (IsOverlapStop rounds.old rounds.new) }
 {
     let probe = rounds.begin_probe(ProbeKind::SetAside)?;
-    let answer = negated_here(alloc, rounds, first, second, count);
+    let answer = negated_here(alloc, rounds, first, second, effort);
     rounds.end_probe(probe);
     answer
 }
@@ -509,7 +511,7 @@ fn negated_aside(
 /// A where clause of one of two impls of a trait which can't hold where the other one does.
 ///
 /// With fresh variables for the parameters of both, their headers are made equal, and placeholders stand for the variables that are left then.
-/// Under the where clauses of the one as environment, with all that these imply, the goal is run for so many rounds that says the opposite of a
+/// Under the where clauses of the one as environment, with all that these imply, the goal is run by that effort that says the opposite of a
 /// where clause of the other one, or of a clause that this implies. The clause is answered if that goal has a Yes that says nothing of any
 /// variable: by a negative impl, a negative clause, or a rule of the language. The clauses of the second impl are asked first, under those of the
 /// first, and then the other way round; of each impl the first such clause counts. In no program in which positive and negative impls don't
@@ -524,9 +526,9 @@ pub fn kept_apart_by_negation(
     rounds: &mut Rounds,
     first: ImplId,
     second: ImplId,
-    count: u16,
+    effort: Effort,
 ) -> Result<Option<WhereClause>, Stop>
-    requires some { 0 < count }
+    requires some { IsEffort effort }
     ensures stays { StaysBesideTable rounds.old rounds.new }
     ensures negated { IfOk result (λ o. IfSome o (IsKeptApart rounds.old (sure_of rounds.new) first second)) }
     ensures cause { IfErr result (IsOverlapStop rounds.old rounds.new) }
@@ -536,10 +538,10 @@ pub fn kept_apart_by_negation(
     if !have_common_trait(rounds.cx(), first, second) {
         return Ok(None);
     }
-    if let Some(number) = negated_aside(alloc, rounds, first, second, count)? {
+    if let Some(number) = negated_aside(alloc, rounds, first, second, effort)? {
         return Ok(Some(WhereClause { of: second, number }));
     }
-    if let Some(number) = negated_aside(alloc, rounds, second, first, count)? {
+    if let Some(number) = negated_aside(alloc, rounds, second, first, effort)? {
         return Ok(Some(WhereClause { of: first, number }));
     }
     Ok(None)

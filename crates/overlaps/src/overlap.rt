@@ -15,6 +15,7 @@ ghost use Rattle.overlaps.specs.Instance.{HaveNoAlias, TellsLeak, unless_leaking
 ghost use Rattle.overlaps.specs.Stopping.{IsOverlapStop};
 ghost use Rattle.overlaps.specs.Refused.{AreDecided, AreOpen, RefusesOfPair, StaysBesideKnown};
 ghost use Rattle.overlaps.specs.Uncertain.{ImplsAreUncertain, IsUncertain, IsUncertainWhereEqual, PairIsUncertain, WhereUncertain};
+ghost use Rattle.candidate_rounds.specs.Table.Efforts.{IsEffort};
 
 use crate::allowance::{Allowance, allowance_of_ordered};
 use crate::answered::are_answered;
@@ -25,6 +26,7 @@ use crate::order::in_order;
 use crate::plain::make_equal;
 use candidate_eval::eval::context::{EvalCtxt, ProbeKind};
 use candidate_rounds::rounds::Rounds;
+use candidate_rounds::rounds::effort::Effort;
 use ir_context::decl::Cx;
 use ir_context::decl::make::{Build, Make};
 use ir_trees::decl::contents::ImplId;
@@ -95,34 +97,34 @@ pub(crate) fn are_undecided(rounds: &Rounds, pair: &Pair) -> bool
     have_aliases(rounds.cx(), pair)
 }
 
-/// The first where clause of the two impls that is refused in so many rounds, those of the first impl before those of the second.
+/// The first where clause of the two impls that is refused by that effort, those of the first impl before those of the second.
 pub(crate) fn refused_clause(
     alloc: Global,
     rounds: &mut Rounds,
     env: ParamEnv,
     pair: &Pair,
-    count: u16,
+    effort: Effort,
 ) -> Result<Option<WhereClause>, Stop>
-    requires some { 0 < count }
+    requires some { IsEffort effort }
     requires env { IsParamEnv rounds.old.context.trees env }
     requires empty { env_forest rounds.old.context.trees env ≡ none }
     requires pending { (state rounds.old).pending ≡ [] }
     requires pair { AreOpen rounds.old.context.trees pair.now }
     ensures stays { StaysBesideTable rounds.old rounds.new }
     ensures refused { IfOk result (λ o. IfSome o (RefusesOfPair rounds.old rounds.new pair.now)) }
-    ensures asked { let r = rounds.old in IfOk result (λ o. o ≡ None → BothStay r (state r) count pair.now (table_of r) (table_of rounds.new)) }
-    ensures before { let r = rounds.old in IfOk result (λ o. IfSome o (StayBefore r (state r) count pair.now (table_of r))) }
+    ensures asked { let r = rounds.old in IfOk result (λ o. o ≡ None → BothStay r (state r) effort pair.now (table_of r) (table_of rounds.new)) }
+    ensures before { let r = rounds.old in IfOk result (λ o. IfSome o (StayBefore r (state r) effort pair.now (table_of r))) }
     ensures cause { IfErr result (IsOverlapStop rounds.old rounds.new) }
 {
     let first = &pair.first;
     let clauses = first.wheres.as_slice();
-    if let Some(number) = first_refused(alloc, rounds, env, clauses, first.locals, count)? {
+    if let Some(number) = first_refused(alloc, rounds, env, clauses, first.locals, effort)? {
         let of = first.of;
         return Ok(Some(WhereClause { of, number }));
     }
     let second = &pair.second;
     let clauses = second.wheres.as_slice();
-    if let Some(number) = first_refused(alloc, rounds, env, clauses, second.locals, count)? {
+    if let Some(number) = first_refused(alloc, rounds, env, clauses, second.locals, effort)? {
         let of = second.of;
         return Ok(Some(WhereClause { of, number }));
     }
@@ -154,21 +156,21 @@ fn overlap_where_equal(
     rounds: &mut Rounds,
     env: ParamEnv,
     pair: &Pair,
-    count: u16,
+    effort: Effort,
 ) -> Result<Overlap, Stop>
-    requires some { 0 < count }
+    requires some { IsEffort effort }
     requires env { IsParamEnv rounds.old.context.trees env }
     requires empty { env_forest rounds.old.context.trees env ≡ none }
     requires pending { (state rounds.old).pending ≡ [] }
     requires pair { AreOpen rounds.old.context.trees pair.now }
     ensures stays { StaysBesideTable rounds.old rounds.new }
     ensures is { IfOk result (IsFoundWhereEqual rounds.old rounds.new pair.now) }
-    ensures asked { let r = rounds.old in IfOk result (WhereMay (BothStay r (state r) count pair.now (table_of r) (table_of rounds.new))) }
-    ensures before { let r = rounds.old in IfOk result (OfClause (StayBefore r (state r) count pair.now (table_of r))) }
+    ensures asked { let r = rounds.old in IfOk result (WhereMay (BothStay r (state r) effort pair.now (table_of r) (table_of rounds.new))) }
+    ensures before { let r = rounds.old in IfOk result (OfClause (StayBefore r (state r) effort pair.now (table_of r))) }
     ensures uncertain { let r = rounds.old in IfOk result (WhereUncertain (IsUncertainWhereEqual r.context (sure_of rounds.new) (state r) pair.now)) }
     ensures cause { IfErr result (IsOverlapStop rounds.old rounds.new) }
 {
-    if let Some(clause) = refused_clause(alloc, rounds, env, pair, count)? {
+    if let Some(clause) = refused_clause(alloc, rounds, env, pair, effort)? {
         return Ok(Overlap::DisjointClause(clause));
     }
     let is_certain = are_certain(alloc, rounds, env, pair)?;
@@ -196,22 +198,22 @@ fn overlap_unless_leaking(
     rounds: &mut Rounds,
     env: ParamEnv,
     pair: &Pair,
-    count: u16,
+    effort: Effort,
     leaks: bool,
 ) -> Result<Overlap, Stop>
-    requires some { 0 < count }
+    requires some { IsEffort effort }
     requires env { IsParamEnv rounds.old.context.trees env }
     requires empty { env_forest rounds.old.context.trees env ≡ none }
     requires pending { (state rounds.old).pending ≡ [] }
     requires pair { AreOpen rounds.old.context.trees pair.now }
     ensures stays { StaysBesideTable rounds.old rounds.new }
     ensures is { IfOk result (λ o. IsFoundWhereEqual rounds.old rounds.new pair.now o × TellsLeak leaks o) }
-    ensures asked { let r = rounds.old in IfOk result (WhereMay (BothStay r (state r) count pair.now (table_of r) (table_of rounds.new))) }
-    ensures before { let r = rounds.old in IfOk result (OfClause (StayBefore r (state r) count pair.now (table_of r))) }
+    ensures asked { let r = rounds.old in IfOk result (WhereMay (BothStay r (state r) effort pair.now (table_of r) (table_of rounds.new))) }
+    ensures before { let r = rounds.old in IfOk result (OfClause (StayBefore r (state r) effort pair.now (table_of r))) }
     ensures uncertain { let r = rounds.old in IfOk result (WhereUncertain ((leaks ≡ true) ⊎ IsUncertainWhereEqual r.context (sure_of rounds.new) (state r) pair.now)) }
     ensures cause { IfErr result (IsOverlapStop rounds.old rounds.new) }
 {
-    let answer = overlap_where_equal(alloc, rounds, env, pair, count)?;
+    let answer = overlap_where_equal(alloc, rounds, env, pair, effort)?;
     Ok(unless_leaking(answer, leaks))
 }
 
@@ -220,15 +222,15 @@ fn overlap_of_pair(
     alloc: Global,
     rounds: &mut Rounds,
     pair: &Pair,
-    count: u16,
+    effort: Effort,
 ) -> Result<Overlap, Stop>
-    requires some { 0 < count }
+    requires some { IsEffort effort }
     requires pending { (state rounds.old).pending ≡ [] }
     requires pair { AreOpen rounds.old.context.trees pair.now }
     ensures stays { StaysBesideKnown rounds.old rounds.new }
     ensures is { IfOk result (IsFoundOfPair rounds.old rounds.new pair.now) }
-    ensures asked { IfOk result (WhereMay (PairWasAsked rounds.old count pair.now (table_of rounds.new))) }
-    ensures before { IfOk result (OfClause (PairWasAskedBefore rounds.old count pair.now)) }
+    ensures asked { IfOk result (WhereMay (PairWasAsked rounds.old effort pair.now (table_of rounds.new))) }
+    ensures before { IfOk result (OfClause (PairWasAskedBefore rounds.old effort pair.now)) }
     ensures uncertain { IfOk result (WhereUncertain (PairIsUncertain rounds.old (sure_of rounds.new) pair.now)) }
     ensures cause { IfErr result (IsOverlapStop rounds.old rounds.new) }
 {
@@ -243,7 +245,7 @@ fn overlap_of_pair(
     }
     let leaks = rounds.leaks_above(alloc, above)?;
     let aside = rounds.begin_probe(ProbeKind::SetAside)?;
-    let answer = overlap_unless_leaking(alloc, rounds, env, pair, count, leaks);
+    let answer = overlap_unless_leaking(alloc, rounds, env, pair, effort, leaks);
     rounds.end_probe(aside);
     answer
 }
@@ -254,16 +256,16 @@ fn overlap_here(
     rounds: &mut Rounds,
     first: ImplId,
     second: ImplId,
-    count: u16,
+    effort: Effort,
 ) -> Result<Overlap, Stop>
-    requires some { 0 < count }
+    requires some { IsEffort effort }
     requires pending { (state rounds.old).pending ≡ [] }
     requires one { AreOfOneTrait rounds.old.context first second }
     ensures stays { StaysBesideKnown rounds.old rounds.new }
     ensures is { IfOk result (IsFoundAt rounds.old (state rounds.old) rounds.new first second) }
     ensures decided { IfOk result IsNotAllowed }
-    ensures asked { let r = rounds.old in IfOk result (WhereMay (OfDeclared r.context first second (WereAsked r (state r) count (table_of rounds.new)))) }
-    ensures before { let r = rounds.old in IfOk result (OfClause (λ w. OfDeclared r.context first second (WereAskedBefore r (state r) count first second w))) }
+    ensures asked { let r = rounds.old in IfOk result (WhereMay (OfDeclared r.context first second (WereAsked r (state r) effort (table_of rounds.new)))) }
+    ensures before { let r = rounds.old in IfOk result (OfClause (λ w. OfDeclared r.context first second (WereAskedBefore r (state r) effort first second w))) }
     ensures uncertain { let r = rounds.old in IfOk result (WhereUncertain (OfDeclared r.context first second (ImplsAreUncertain r (state r) (sure_of rounds.new)))) }
     ensures cause { IfErr result (IsOverlapStop rounds.old rounds.new) }
 {
@@ -272,7 +274,7 @@ fn overlap_here(
     let Some(pair) = open_both(alloc, rounds, first, second)? else {
         return Ok(Overlap::NoCommonTrait);
     };
-    overlap_of_pair(alloc, rounds, &pair, count)
+    overlap_of_pair(alloc, rounds, &pair, effort)
 }
 
 /// Whether the two impls overlap where nothing is pending, in a probe that is set aside, so that all stays but the table.
@@ -281,13 +283,13 @@ fn overlap_aside(
     rounds: &mut Rounds,
     first: ImplId,
     second: ImplId,
-    count: u16,
+    effort: Effort,
 ) -> Result<Overlap, Stop>
-    requires some { 0 < count }
+    requires some { IsEffort effort }
     ensures stays { StaysBesideTable rounds.old rounds.new }
     ensures is { IfOk result (IsFoundAt rounds.old (aside (state rounds.old)) rounds.new first second) }
-    ensures asked { let r = rounds.old in IfOk result (WhereMay (OfDeclared r.context first second (WereAsked r (aside (state r)) count (table_of rounds.new)))) }
-    ensures before { let r = rounds.old in IfOk result (OfClause (λ w. OfDeclared r.context first second (WereAskedBefore r (aside (state r)) count first second w))) }
+    ensures asked { let r = rounds.old in IfOk result (WhereMay (OfDeclared r.context first second (WereAsked r (aside (state r)) effort (table_of rounds.new)))) }
+    ensures before { let r = rounds.old in IfOk result (OfClause (λ w. OfDeclared r.context first second (WereAskedBefore r (aside (state r)) effort first second w))) }
     ensures uncertain { let r = rounds.old in IfOk result (WhereUncertain (OfDeclared r.context first second (ImplsAreUncertain r (aside (state r)) (sure_of rounds.new)))) }
     ensures decided { IfOk result IsNotAllowed }
     ensures cause { IfErr result (IsOverlapStop rounds.old rounds.new) }
@@ -296,7 +298,7 @@ fn overlap_aside(
         return Ok(Overlap::NoCommonTrait);
     }
     let probe = rounds.begin_probe(ProbeKind::SetAside)?;
-    let answer = overlap_here(alloc, rounds, first, second, count);
+    let answer = overlap_here(alloc, rounds, first, second, effort);
     rounds.end_probe(probe);
     answer
 }
@@ -307,13 +309,13 @@ fn overlap_of_ordered(
     rounds: &mut Rounds,
     first: ImplId,
     second: ImplId,
-    count: u16,
+    effort: Effort,
 ) -> Result<Overlap, Stop>
-    requires some { 0 < count }
+    requires some { IsEffort effort }
     ensures stays { StaysBesideTable rounds.old rounds.new }
     ensures is { IfOk result (IsFoundAt rounds.old (aside (state rounds.old)) rounds.new first second) }
-    ensures asked { let r = rounds.old in IfOk result (WhereMay (OfDeclared r.context first second (WereAsked r (aside (state r)) count (table_of rounds.new)))) }
-    ensures before { let r = rounds.old in IfOk result (OfClause (λ w. OfDeclared r.context first second (WereAskedBefore r (aside (state r)) count first second w))) }
+    ensures asked { let r = rounds.old in IfOk result (WhereMay (OfDeclared r.context first second (WereAsked r (aside (state r)) effort (table_of rounds.new)))) }
+    ensures before { let r = rounds.old in IfOk result (OfClause (λ w. OfDeclared r.context first second (WereAskedBefore r (aside (state r)) effort first second w))) }
     ensures uncertain { let r = rounds.old in IfOk result (WhereUncertain (OfDeclared r.context first second (ImplsAreUncertain r (aside (state r)) (sure_of rounds.new)))) }
     ensures allowed { (w : Allowance) → allowance_of_ordered rounds.old.context first second ≡ Some w → result ≡ Ok (Overlap.Allowed w) }
     ensures cause { IfErr result (IsOverlapStop rounds.old rounds.new) }
@@ -321,14 +323,14 @@ fn overlap_of_ordered(
     if let Some(reason) = allowance_of_ordered(rounds.cx(), first, second) {
         return Ok(Overlap::Allowed(reason));
     }
-    overlap_aside(alloc, rounds, first, second, count)
+    overlap_aside(alloc, rounds, first, second, effort)
 }
 
 /// Whether two impls of a trait may overlap: a reference may be an instance of both.
 ///
 /// It is the same whichever of the two is given first: all is done with them in the order of their numbers. With fresh variables for the
 /// parameters of both, their headers are made equal; and then each where clause that says something of a trait, of the impl of the lower number
-/// and then of the other, is run for so many rounds and computed, with all values put in. `NoCommonTrait` comes where the numbers aren't those of
+/// and then of the other, is run by that effort and computed, with all values put in. `NoCommonTrait` comes where the numbers aren't those of
 /// two impls of one trait, `Allowed` where `allowance_of` has a reason, `DisjointHeaders` where the headers can't be made equal, and
 /// `DisjointClause` of the first clause that is refused. Else it is `May`, with what is an instance of both headers, unless an alias stands in
 /// one, and whether it is certain that both impls hold of it.
@@ -346,7 +348,7 @@ fn overlap_of_ordered(
 ///
 /// Where it is `May`, each where clause of both was asked at what the headers' equation leaves, one after the other, and stays for a reason that
 /// the contract has: it says nothing of a trait; in coherence nothing is decided by its goal; in another mode the goal was run, if it stands;
-/// or the goal was run for so many rounds, and then had an answer, or was refused where a variable stands in it and it may lead to an auto
+/// or the goal was run by that effort, and then had an answer, or was refused where a variable stands in it and it may lead to an auto
 /// trait with an impl that bars no head, or to unsizing. No clause is asked where the headers' equation decides nothing. Where it is
 /// `DisjointClause`, each clause before that one was asked, and stays in the same way. Where it is uncertain, an alias stands in a header, a
 /// region leaks, or the contract names a clause and why the table doesn't make it certain.
@@ -361,19 +363,19 @@ pub fn impls_overlap(
     rounds: &mut Rounds,
     first: ImplId,
     second: ImplId,
-    count: u16,
+    effort: Effort,
 ) -> Result<Overlap, Stop>
-    requires some { 0 < count }
+    requires some { IsEffort effort }
     ensures stays { StaysBesideTable rounds.old rounds.new }
     ensures is { IfOk result (IsOverlap rounds.old rounds.new first second) }
-    ensures asked { IfOk result (WhereMay (ClausesWereAsked rounds.old count (table_of rounds.new) first second)) }
-    ensures before { IfOk result (OfClause (ClausesBeforeWereAsked rounds.old count first second)) }
+    ensures asked { IfOk result (WhereMay (ClausesWereAsked rounds.old effort (table_of rounds.new) first second)) }
+    ensures before { IfOk result (OfClause (ClausesBeforeWereAsked rounds.old effort first second)) }
     ensures uncertain { IfOk result (WhereUncertain (IsUncertain rounds.old (sure_of rounds.new) first second)) }
     ensures allowed { (w : Allowance) → allowance_of rounds.old.context first second ≡ Some w → result ≡ Ok (Overlap.Allowed w) }
     ensures cause { IfErr result (IsOverlapStop rounds.old rounds.new) }
 {
     let pair = in_order(first, second);
-    overlap_of_ordered(alloc, rounds, pair.0, pair.1, count)
+    overlap_of_ordered(alloc, rounds, pair.0, pair.1, effort)
 }
 
 /// Whether the two impls overlap, whatever the two declare: that one is a reservation, or said to specialise the other, isn't looked at, and `Allowed` is no
@@ -383,17 +385,17 @@ pub fn impls_overlap_anyway(
     rounds: &mut Rounds,
     first: ImplId,
     second: ImplId,
-    count: u16,
+    effort: Effort,
 ) -> Result<Overlap, Stop>
-    requires some { 0 < count }
+    requires some { IsEffort effort }
     ensures stays { StaysBesideTable rounds.old rounds.new }
     ensures is { IfOk result (IsOverlap rounds.old rounds.new first second) }
-    ensures asked { IfOk result (WhereMay (ClausesWereAsked rounds.old count (table_of rounds.new) first second)) }
-    ensures before { IfOk result (OfClause (ClausesBeforeWereAsked rounds.old count first second)) }
+    ensures asked { IfOk result (WhereMay (ClausesWereAsked rounds.old effort (table_of rounds.new) first second)) }
+    ensures before { IfOk result (OfClause (ClausesBeforeWereAsked rounds.old effort first second)) }
     ensures uncertain { IfOk result (WhereUncertain (IsUncertain rounds.old (sure_of rounds.new) first second)) }
     ensures decided { IfOk result IsNotAllowed }
     ensures cause { IfErr result (IsOverlapStop rounds.old rounds.new) }
 {
     let pair = in_order(first, second);
-    overlap_aside(alloc, rounds, pair.0, pair.1, count)
+    overlap_aside(alloc, rounds, pair.0, pair.1, effort)
 }

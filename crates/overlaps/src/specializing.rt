@@ -15,6 +15,7 @@ ghost use Rattle.overlaps.specs.Refused.{AreOpen, IsOpen, StaysBesideKnown};
 ghost use Rattle.overlaps.specs.Specialized.{AreAlike, AreTakenUp, HoldsAsSaid, HoldsAt, IsEnvironmentOf, IsFoundOfLeft, IsFoundOfPair, IsFoundWhereEqual, IsLeft, IsSpecialization, IsSpecializationAt, IsTakenUp, IsTypedBy, clauses_with};
 ghost use Rattle.overlaps.specs.Stopping.{IsOverlapStop};
 ghost use Rattle.overlaps.specs.Together.{IsProjectionType, StandsIn};
+ghost use Rattle.candidate_rounds.specs.Table.Efforts.{IsEffort};
 
 use crate::answered::{is_outlives, is_predicate_answered};
 use crate::negation::make_one_equal;
@@ -26,6 +27,7 @@ use candidate_assembly::assembly::opaques::with_type_for;
 use candidate_eval::eval::clauses::{predicate_in, substitute};
 use candidate_eval::eval::context::{EvalCtxt, ProbeKind};
 use candidate_rounds::rounds::Rounds;
+use candidate_rounds::rounds::effort::Effort;
 use ir_context::decl::Cx;
 use ir_context::decl::make::{Build, Make};
 use ir_folds::decl::elaborate::elaborate;
@@ -139,15 +141,15 @@ fn environment_of<E: EvalCtxt>(
     environment_with(alloc, ecx, clauses.as_slice())
 }
 
-/// Runs the goal of a predicate in so many rounds, unless it doesn't stand at what is known.
+/// Runs the goal of a predicate by that effort, unless it doesn't stand at what is known.
 pub(crate) fn run_predicate(
     alloc: Global,
     rounds: &mut Rounds,
     env: ParamEnv,
     predicate: TraitPredicate,
-    count: u16,
+    effort: Effort,
 ) -> Result<(), Stop>
-    requires some { 0 < count }
+    requires some { IsEffort effort }
     requires env { IsParamEnv rounds.old.context.trees env }
     requires args { IsArgs rounds.old.context.trees predicate.trait_ref.args }
     requires fit { ArgumentsFit rounds.old.context predicate.trait_ref }
@@ -160,19 +162,19 @@ pub(crate) fn run_predicate(
     if !rounds.may_be_run(alloc, env, predicate)? {
         return Ok(());
     }
-    rounds.run(alloc, env, predicate, count)?;
+    rounds.run_by(alloc, env, predicate, effort)?;
     Ok(())
 }
 
-/// Runs the goal of a where clause in so many rounds, with all values put in; one that says nothing of a trait has none.
+/// Runs the goal of a where clause by that effort, with all values put in; one that says nothing of a trait has none.
 fn run_clause(
     alloc: Global,
     rounds: &mut Rounds,
     env: ParamEnv,
     clause: Clause,
-    count: u16,
+    effort: Effort,
 ) -> Result<(), Stop>
-    requires some { 0 < count }
+    requires some { IsEffort effort }
     requires env { IsParamEnv rounds.old.context.trees env }
     requires clause { IsClause rounds.old.context.trees clause }
     ensures stays { StaysBesideTable rounds.old rounds.new }
@@ -182,7 +184,7 @@ fn run_clause(
     let Some(predicate) = predicate_in(rounds.cx(), clause) else {
         return Ok(());
     };
-    run_predicate(alloc, rounds, env, predicate, count)
+    run_predicate(alloc, rounds, env, predicate, effort)
 }
 
 /// Runs the goals of where clauses that are left, one after the other.
@@ -191,16 +193,16 @@ fn run_left(
     rounds: &mut Rounds,
     env: ParamEnv,
     left: &[Left],
-    count: u16,
+    effort: Effort,
 ) -> Result<(), Stop>
-    requires some { 0 < count }
+    requires some { IsEffort effort }
     requires env { IsParamEnv rounds.old.context.trees env }
     requires left { Each (IsLeft rounds.old.context.trees) left.now }
     ensures stays { StaysBesideTable rounds.old rounds.new }
     ensures cause { IfErr result (IsOverlapStop rounds.old rounds.new) }
 {
     for i in 0..left.len() {
-        run_clause(alloc, rounds, env, left[i].1, count)?;
+        run_clause(alloc, rounds, env, left[i].1, effort)?;
     }
     Ok(())
 }
@@ -256,15 +258,15 @@ fn is_quiet(alloc: Global, rounds: &mut Rounds) -> Result<bool, Stop>
     Ok(goals.as_slice().is_empty())
 }
 
-/// Whether the projection has a type in so many rounds, and this can be made equal to what a where clause says, so that nothing is left pending.
+/// Whether the projection has a type by that effort, and this can be made equal to what a where clause says, so that nothing is left pending.
 fn holds_as_said(
     alloc: Global,
     rounds: &mut Rounds,
     env: ParamEnv,
     said: (AliasTy, Ty),
-    count: u16,
+    effort: Effort,
 ) -> Result<bool, Stop>
-    requires some { 0 < count }
+    requires some { IsEffort effort }
     requires env { IsParamEnv rounds.old.context.trees env }
     requires alias { KindFits rounds.old.context.trees (K.Alias said.0) }
     requires projection { said.0.kind ≡ AK.Projection }
@@ -273,7 +275,7 @@ fn holds_as_said(
     ensures holds { let r = rounds.old in let ts = r.context.trees in IfOk result (λ b. b ≡ true → HoldsAsSaid r rounds.new (env_forest ts env) (kind_tree ts (K.Alias said.0)) (ty_tree ts said.1)) }
     ensures cause { IfErr result (IsOverlapStop rounds.old rounds.new) }
 {
-    match projected(alloc, rounds, env, said.0, count)? {
+    match projected(alloc, rounds, env, said.0, effort)? {
         ProjectionType::Open => Ok(false),
         ProjectionType::Impossible => Ok(false),
         ProjectionType::Type(ty) => {
@@ -293,9 +295,9 @@ fn with_type(
     env: ParamEnv,
     clause: Clause,
     projection: (Ty, AliasTy),
-    count: u16,
+    effort: Effort,
 ) -> Result<Option<Clause>, Stop>
-    requires some { 0 < count }
+    requires some { IsEffort effort }
     requires env { IsParamEnv rounds.old.context.trees env }
     requires clause { IsClause rounds.old.context.trees clause }
     requires projection { IsProjectionType rounds.old.context.trees projection.0 projection.1 }
@@ -305,7 +307,7 @@ fn with_type(
     ensures typed { let r = rounds.old in let ts = r.context.trees in IfOk result (λ o. IfSome o (λ x. IsTypedBy r rounds.new (env_forest ts env) (clause_tree ts clause) x)) }
     ensures cause { IfErr result (IsOverlapStop rounds.old rounds.new) }
 {
-    match projected(alloc, rounds, env, projection.1, count)? {
+    match projected(alloc, rounds, env, projection.1, effort)? {
         ProjectionType::Open => Ok(Some(clause)),
         ProjectionType::Impossible => Ok(None),
         ProjectionType::Type(ty) => {
@@ -326,9 +328,9 @@ fn with_types(
     rounds: &mut Rounds,
     env: ParamEnv,
     clause: Clause,
-    count: u16,
+    effort: Effort,
 ) -> Result<Option<Clause>, Stop>
-    requires some { 0 < count }
+    requires some { IsEffort effort }
     requires env { IsParamEnv rounds.old.context.trees env }
     requires clause { IsClause rounds.old.context.trees clause }
     ensures stays { StaysBesideKnown rounds.old rounds.new }
@@ -341,7 +343,7 @@ fn with_types(
         let Some(projection) = projection_in(rounds.cx(), clause) else {
             return Ok(Some(clause));
         };
-        let Some(next) = with_type(alloc, rounds, env, clause, projection, count)? else {
+        let Some(next) = with_type(alloc, rounds, env, clause, projection, effort)? else {
             return Ok(None);
         };
         if next == clause {
@@ -359,10 +361,10 @@ fn take_up(
     rounds: &mut Rounds,
     env: ParamEnv,
     clause: Left,
-    count: u16,
+    effort: Effort,
     left: &mut Vec<Left>,
 ) -> Result<bool, Stop>
-    requires some { 0 < count }
+    requires some { IsEffort effort }
     requires env { IsParamEnv rounds.old.context.trees env }
     requires clause { IsClause rounds.old.context.trees clause.1 }
     requires left { Each (IsLeft rounds.old.context.trees) left.old.items }
@@ -370,11 +372,11 @@ fn take_up(
     ensures taken { let r = rounds.old in let ts = r.context.trees in IfOk result (λ b. b ≡ true → IsTakenUp r rounds.new (env_forest ts env) (clause_tree ts clause.1) left.old.items left.new.items) }
     ensures cause { IfErr result (IsOverlapStop rounds.old rounds.new) }
 {
-    let Some(typed) = with_types(alloc, rounds, env, clause.1, count)? else {
+    let Some(typed) = with_types(alloc, rounds, env, clause.1, effort)? else {
         return Ok(false);
     };
     if let Some(said) = said_of_projection(rounds.cx(), typed) {
-        return holds_as_said(alloc, rounds, env, said, count);
+        return holds_as_said(alloc, rounds, env, said, effort);
     }
     left.push((clause.0, typed))?;
     Ok(true)
@@ -386,10 +388,10 @@ fn take_up_all(
     rounds: &mut Rounds,
     env: ParamEnv,
     clauses: &[Clause],
-    count: u16,
+    effort: Effort,
     left: &mut Vec<Left>,
 ) -> Result<Option<usize>, Stop>
-    requires some { 0 < count }
+    requires some { IsEffort effort }
     requires env { IsParamEnv rounds.old.context.trees env }
     requires clauses { ClauseListFits rounds.old.context.trees clauses.now }
     requires left { left.old.items ≡ [] }
@@ -398,7 +400,7 @@ fn take_up_all(
     ensures cause { IfErr result (IsOverlapStop rounds.old rounds.new) }
 {
     for number in 0..clauses.len() {
-        if !take_up(alloc, rounds, env, (number, clauses[number]), count, left)? {
+        if !take_up(alloc, rounds, env, (number, clauses[number]), effort, left)? {
             return Ok(Some(number));
         }
     }
@@ -411,16 +413,16 @@ fn what_is_left_holds(
     rounds: &mut Rounds,
     env: ParamEnv,
     left: &[Left],
-    count: u16,
+    effort: Effort,
 ) -> Result<Specialization, Stop>
-    requires some { 0 < count }
+    requires some { IsEffort effort }
     requires env { IsParamEnv rounds.old.context.trees env }
     requires left { Each (IsLeft rounds.old.context.trees) left.now }
     ensures stays { StaysBesideTable rounds.old rounds.new }
     ensures is { let r = rounds.old in IfOk result (IsFoundOfLeft r (env_forest r.context.trees env) (sure_of rounds.new) left.now) }
     ensures cause { IfErr result (IsOverlapStop rounds.old rounds.new) }
 {
-    run_left(alloc, rounds, env, left, count)?;
+    run_left(alloc, rounds, env, left, effort)?;
     match first_not_held(alloc, rounds, env, left)? {
         Some(number) => Ok(Specialization::Unanswered(number)),
         None => Ok(Specialization::Specializes),
@@ -434,9 +436,9 @@ fn specializes_where_equal(
     rounds: &mut Rounds,
     env: ParamEnv,
     general: &Opened,
-    count: u16,
+    effort: Effort,
 ) -> Result<Specialization, Stop>
-    requires some { 0 < count }
+    requires some { IsEffort effort }
     requires env { IsParamEnv rounds.old.context.trees env }
     requires open { IsOpen rounds.old.context.trees general.now }
     ensures stays { StaysBesideKnown rounds.old rounds.new }
@@ -445,9 +447,9 @@ fn specializes_where_equal(
 {
     let clauses = with_locals(alloc, rounds, general.wheres.as_slice(), general.locals)?;
     let mut left = Vec::new(alloc);
-    match take_up_all(alloc, rounds, env, clauses.as_slice(), count, &mut left)? {
+    match take_up_all(alloc, rounds, env, clauses.as_slice(), effort, &mut left)? {
         Some(number) => Ok(Specialization::Unanswered(number)),
-        None => what_is_left_holds(alloc, rounds, env, left.as_slice(), count),
+        None => what_is_left_holds(alloc, rounds, env, left.as_slice(), effort),
     }
 }
 
@@ -458,9 +460,9 @@ fn specializes_under(
     rounds: &mut Rounds,
     env: ParamEnv,
     pair: &Pair,
-    count: u16,
+    effort: Effort,
 ) -> Result<Specialization, Stop>
-    requires some { 0 < count }
+    requires some { IsEffort effort }
     requires env { IsParamEnv rounds.old.context.trees env }
     requires pair { AreOpen rounds.old.context.trees pair.now }
     ensures stays { StaysBesideKnown rounds.old rounds.new }
@@ -479,7 +481,7 @@ fn specializes_under(
         return Ok(Specialization::NoInstance);
     }
     let aside = rounds.begin_probe(ProbeKind::SetAside)?;
-    let answer = specializes_where_equal(alloc, rounds, env, &pair.second, count);
+    let answer = specializes_where_equal(alloc, rounds, env, &pair.second, effort);
     rounds.end_probe(aside);
     answer
 }
@@ -490,9 +492,9 @@ fn specializes_here(
     rounds: &mut Rounds,
     special: ImplId,
     general: ImplId,
-    count: u16,
+    effort: Effort,
 ) -> Result<Specialization, Stop>
-    requires some { 0 < count }
+    requires some { IsEffort effort }
     requires alike { IfDeclared rounds.old.context special general AreAlike }
     ensures stays { StaysBesideKnown rounds.old rounds.new }
     ensures is { let r = rounds.old in IfOk result (IsSpecializationAt r (state r) (sure_of rounds.new) special general) }
@@ -503,18 +505,18 @@ fn specializes_here(
     };
     let first = &pair.first;
     let env = environment_of(alloc, rounds, first.wheres.as_slice(), first.locals)?;
-    specializes_under(alloc, rounds, env, &pair, count)
+    specializes_under(alloc, rounds, env, &pair, effort)
 }
 
 /// Whether an impl specialises another one of its trait, which says the same of whether it holds.
 ///
 /// Under the where clauses of the first impl as environment, with all that these imply, its header is an instance of the other's: with
 /// placeholders for its parameters it is made equal to the header of the other one, which has fresh variables for its own. And then each where
-/// clause of the other one holds: with all values put in, its goal is run for so many rounds, and has a Yes that gives no variable a value and
+/// clause of the other one holds: with all values put in, its goal is run by that effort, and has a Yes that gives no variable a value and
 /// leads to no auto trait with an impl for some types of a head alone. A clause that says what outlives what is assumed.
 ///
 /// What clauses of the other one say of projections is asked before: `I: Iterator<Item = U>` holds where the projection has a type by a sure
-/// answer, in so many rounds, and this can be made equal to `U`, which may give variables of the other one their values. A projection in a clause
+/// answer, by that effort, and this can be made equal to `U`, which may give variables of the other one their values. A projection in a clause
 /// gets its type so, too.
 ///
 /// `Unlike` comes where the numbers aren't those of two impls of one trait with one polarity, `NoInstance` where the headers can't be made
@@ -528,9 +530,9 @@ pub fn specializes(
     rounds: &mut Rounds,
     special: ImplId,
     general: ImplId,
-    count: u16,
+    effort: Effort,
 ) -> Result<Specialization, Stop>
-    requires some { 0 < count }
+    requires some { IsEffort effort }
     ensures stays { StaysBesideTable rounds.old rounds.new }
     ensures is { IfOk result (IsSpecialization rounds.old rounds.new special general) }
     ensures cause { IfErr result (IsOverlapStop rounds.old rounds.new) }
@@ -539,7 +541,7 @@ pub fn specializes(
         return Ok(Specialization::Unlike);
     }
     let probe = rounds.begin_probe(ProbeKind::SetAside)?;
-    let answer = specializes_here(alloc, rounds, special, general, count);
+    let answer = specializes_here(alloc, rounds, special, general, effort);
     rounds.end_probe(probe);
     answer
 }

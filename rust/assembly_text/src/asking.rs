@@ -19,6 +19,7 @@ use candidate_eval::coherence::{
     Conflict, InCrate, NormalizeErr, OrphanCheckErr, OrphanCheckMode, OrphanStop,
     orphan_check_trait_ref, trait_ref_is_knowable,
 };
+use candidate_rounds::rounds::effort::Effort;
 use candidate_rounds::rounds::goals::Verdict;
 use candidate_rounds::rounds::normalizing::trait_predicate;
 use ir_context::decl::context::Cx;
@@ -280,15 +281,15 @@ impl<'a> Asking<'a> {
         })
     }
 
-    /// What follows `solve` and the like: in how many rounds, and the goal.
+    /// What follows `solve` and the like: how long the goal is computed, and the goal.
     pub(crate) fn goal<'b>(
         &mut self,
         words: &mut Words<'b>,
-    ) -> Result<(u16, TraitPredicate), Fault<'b>>
+    ) -> Result<(Effort, TraitPredicate), Fault<'b>>
     {
-        let count = rounds(words)?;
+        let effort = read_effort(words)?;
         let predicate = self.predicate(words)?;
-        Ok((count, predicate))
+        Ok((effort, predicate))
     }
 
     /// Makes the answer to a line that asks what a goal comes to.
@@ -299,31 +300,31 @@ impl<'a> Asking<'a> {
     {
         self.forget();
         match self.goal(&mut words) {
-            Ok((count, predicate)) => {
-                let (asking, made) = self.answered(predicate, count);
+            Ok((effort, predicate)) => {
+                let (asking, made) = self.answered(predicate, effort);
                 (asking, Ok(made))
             }
             Err(fault) => (self, Err(fault)),
         }
     }
 
-    /// Adds what the goal comes to in so many rounds at most.
-    fn answered(self, predicate: TraitPredicate, count: u16) -> (Asking<'a>, Result<(), Stop>)
+    /// Adds what the goal comes to by that effort.
+    fn answered(self, predicate: TraitPredicate, effort: Effort) -> (Asking<'a>, Result<(), Stop>)
     {
-        let (mut asking, verdict) = self.solved(predicate, count);
+        let (mut asking, verdict) = self.solved(predicate, effort);
         let made = asking.print_verdict(verdict);
         (asking, made)
     }
 
-    /// What the goal comes to in so many rounds at most.
+    /// What the goal comes to by that effort.
     fn solved(
         self,
         predicate: TraitPredicate,
-        count: u16,
+        effort: Effort,
     ) -> (Asking<'a>, Result<Option<Verdict>, Stop>)
     {
         let (maker, rest) = self.apart();
-        let (maker, verdict) = solve(rest.alloc, maker, &rest.given, predicate, count);
+        let (maker, verdict) = solve(rest.alloc, maker, &rest.given, predicate, effort);
         (rest.with(maker), verdict)
     }
 
@@ -335,61 +336,64 @@ impl<'a> Asking<'a> {
     {
         self.forget();
         match self.goal(&mut words) {
-            Ok((count, predicate)) => {
-                let (asking, made) = self.answered_with_values(predicate, count);
+            Ok((effort, predicate)) => {
+                let (asking, made) = self.answered_with_values(predicate, effort);
                 (asking, Ok(made))
             }
             Err(fault) => (self, Err(fault)),
         }
     }
 
-    /// Adds what the goal comes to in so many rounds at most, and what its variables stand for.
+    /// Adds what the goal comes to by that effort, and what its variables stand for.
     fn answered_with_values(
         self,
         predicate: TraitPredicate,
-        count: u16,
+        effort: Effort,
     ) -> (Asking<'a>, Result<(), Stop>)
     {
-        let (mut asking, solved) = self.solved_for_values(predicate, count);
+        let (mut asking, solved) = self.solved_for_values(predicate, effort);
         let made = asking.print_solved(solved);
         (asking, made)
     }
 
-    /// What the goal comes to in so many rounds at most, and what its variables stand for.
+    /// What the goal comes to by that effort, and what its variables stand for.
     fn solved_for_values(
         self,
         predicate: TraitPredicate,
-        count: u16,
+        effort: Effort,
     ) -> (Asking<'a>, Result<Solved, Stop>)
     {
         let (maker, rest) = self.apart();
-        let (maker, solved) = solve_for_values(rest.alloc, maker, &rest.given, predicate, count);
+        let (maker, solved) = solve_for_values(rest.alloc, maker, &rest.given, predicate, effort);
         (rest.with(maker), solved)
     }
 
     /// What follows `normalize`: in how many rounds, whether that is as many as it takes, and the projection.
     ///
     /// Besides the faults of the words, `Fault::NotAnAlias` comes where the type is no projection.
-    fn projection<'b>(&mut self, words: &mut Words<'b>) -> Result<(u16, bool, AliasTy), Fault<'b>>
+    fn projection<'b>(
+        &mut self,
+        words: &mut Words<'b>,
+    ) -> Result<(Effort, bool, AliasTy), Fault<'b>>
     {
-        let (count, waits) = rounds_or_all(words)?;
+        let (effort, waits) = read_effort_or_all(words)?;
         let ty = self.scope.read_type(words, Binders::none(), MAX_DEPTH)?;
         let alias = projection_of(&self.scope.maker, ty)?;
         words.end()?;
-        Ok((count, waits, alias))
+        Ok((effort, waits, alias))
     }
 
     /// What follows `overlap`: in how many rounds, and two impls.
     pub(crate) fn two_impls<'b>(
         &self,
         words: &mut Words<'b>,
-    ) -> Result<(u16, ImplId, ImplId), Fault<'b>>
+    ) -> Result<(Effort, ImplId, ImplId), Fault<'b>>
     {
-        let count = rounds(words)?;
+        let effort = read_effort(words)?;
         let first = self.scope.names.next_named(words)?;
         let second = self.scope.names.next_named(words)?;
         words.end()?;
-        Ok((count, first, second))
+        Ok((effort, first, second))
     }
 
     /// Makes the answer to a line that asks whether two impls overlap.
@@ -400,46 +404,53 @@ impl<'a> Asking<'a> {
     {
         self.forget();
         match self.two_impls(&mut words) {
-            Ok((count, first, second)) => {
-                let (asking, made) = self.answered_with_overlap(first, second, count);
+            Ok((effort, first, second)) => {
+                let (asking, made) = self.answered_with_overlap(first, second, effort);
                 (asking, Ok(made))
             }
             Err(fault) => (self, Err(fault)),
         }
     }
 
-    /// Whether the two impls overlap, in so many rounds for each where clause.
+    /// Whether the two impls overlap, by that effort for each where clause.
     pub(crate) fn overlapped(
         self,
         first: ImplId,
         second: ImplId,
-        count: u16,
+        effort: Effort,
     ) -> (Asking<'a>, Result<Overlap, Stop>)
     {
         let (maker, rest) = self.apart();
-        let (maker, overlap) = overlap(rest.alloc, maker, &rest.given, first, second, count);
+        let (maker, overlap) = overlap(rest.alloc, maker, &rest.given, first, second, effort);
         (rest.with(maker), overlap)
     }
 
-    /// Whether the two impls overlap, whatever lines declare of them, in so many rounds for each where clause.
+    /// Whether the two impls overlap, whatever lines declare of them, by that effort for each where clause.
     pub(crate) fn overlapped_anyway(
         self,
         first: ImplId,
         second: ImplId,
-        count: u16,
+        effort: Effort,
     ) -> (Asking<'a>, Result<Overlap, Stop>)
     {
         let (maker, rest) = self.apart();
-        let (maker, overlap) = overlap_anyway(rest.alloc, maker, &rest.given, first, second, count);
+        let (maker, overlap) = overlap_anyway(
+            rest.alloc,
+            maker,
+            &rest.given,
+            first,
+            second,
+            effort,
+        );
         (rest.with(maker), overlap)
     }
 
-    /// Whether the first impl specialises the second one, in so many rounds for each where clause.
+    /// Whether the first impl specialises the second one, by that effort for each where clause.
     pub(crate) fn tested(
         self,
         special: ImplId,
         general: ImplId,
-        count: u16,
+        effort: Effort,
     ) -> (Asking<'a>, Result<Specialization, Stop>)
     {
         let (maker, rest) = self.apart();
@@ -449,7 +460,7 @@ impl<'a> Asking<'a> {
             &rest.given,
             special,
             general,
-            count,
+            effort,
         );
         (rest.with(maker), answer)
     }
@@ -462,23 +473,23 @@ impl<'a> Asking<'a> {
     {
         self.forget();
         match self.projection(&mut words) {
-            Ok((count, waits, alias)) => {
-                let (asking, made) = self.answered_with_normal(alias, count, waits);
+            Ok((effort, waits, alias)) => {
+                let (asking, made) = self.answered_with_normal(alias, effort, waits);
                 (asking, Ok(made))
             }
             Err(fault) => (self, Err(fault)),
         }
     }
 
-    /// Adds what the projection comes to in so many rounds at most, or, if it `waits`, once the goal of its trait is final.
+    /// Adds what the projection comes to by that effort, or, if it `waits`, once the goal of its trait is final.
     fn answered_with_normal(
         self,
         alias: AliasTy,
-        count: u16,
+        effort: Effort,
         waits: bool,
     ) -> (Asking<'a>, Result<(), Stop>)
     {
-        let (mut asking, normal) = self.normalized(alias, count, waits);
+        let (mut asking, normal) = self.normalized(alias, effort, waits);
         let made = asking.print_normal(normal);
         (asking, made)
     }
@@ -487,12 +498,12 @@ impl<'a> Asking<'a> {
     fn normalized(
         self,
         alias: AliasTy,
-        count: u16,
+        effort: Effort,
         waits: bool,
     ) -> (Asking<'a>, Result<Normal, Stop>)
     {
         let (maker, rest) = self.apart();
-        let (maker, normal) = normalize(rest.alloc, maker, &rest.given, alias, count, waits);
+        let (maker, normal) = normalize(rest.alloc, maker, &rest.given, alias, effort, waits);
         (rest.with(maker), normal)
     }
 
@@ -523,23 +534,23 @@ impl<'a> Asking<'a> {
     }
 }
 
-/// In how many rounds: a number, or `*`, until nothing changes, but no more than may be asked for.
-pub(crate) fn rounds<'a>(words: &mut Words<'a>) -> Result<u16, Fault<'a>>
+/// How long goals are computed: in so many rounds, or by `*` as long as needed.
+pub(crate) fn read_effort<'a>(words: &mut Words<'a>) -> Result<Effort, Fault<'a>>
 {
-    let (count, _) = rounds_or_all(words)?;
-    Ok(count)
+    let (effort, _) = read_effort_or_all(words)?;
+    Ok(effort)
 }
 
 /// The same, and whether it is `*`.
-fn rounds_or_all<'a>(words: &mut Words<'a>) -> Result<(u16, bool), Fault<'a>>
+fn read_effort_or_all<'a>(words: &mut Words<'a>) -> Result<(Effort, bool), Fault<'a>>
 {
     let mut ahead = *words;
     match ahead.next_word() {
         Some(word) if is_star(word) => {
             *words = ahead;
-            Ok((MAX_ROUNDS, true))
+            Ok((Effort::AsNeeded, true))
         }
-        _ => Ok((words.number(1, MAX_ROUNDS)?, false)),
+        _ => Ok((Effort::Rounds(words.number(1, MAX_ROUNDS)?), false)),
     }
 }
 

@@ -4,19 +4,21 @@
 
 
 use kit::{eprintln, format, prelude::*, print, println, vec};
-use crate::asking::{Asking, rounds};
+use crate::asking::{Asking, read_effort};
 use crate::comparing::Found;
+use crate::printing::word_before_instance;
 use assembly_notation::faults::Fault;
 use assembly_notation::names::{NamedImpl, Origin};
 use assembly_notation::words::Words;
 use candidate_eval::coherence::{InCrate, OrphanCheckErr, OrphanCheckMode, OrphanStop};
 use candidate_eval::eval::clauses::self_ty;
+use candidate_rounds::rounds::effort::Effort;
 use ir_context::decl::context::Cx;
 use ir_context::decl::make::Build;
 use ir_context::decl::unify_count::UnifyCount;
 use ir_folds::decl::parameters::has_arguments;
 use ir_folds::decl::subst::subst;
-use ir_trees::decl::contents::ImplId;
+use ir_trees::decl::contents::{ImplId, ImplPolarity};
 use ir_trees::decl::definition::CrateId;
 use ir_trees::ir::heads::Flag;
 use ir_trees::ir::kinds::{
@@ -25,6 +27,7 @@ use ir_trees::ir::kinds::{
 use ir_trees::ir::stop::Stop;
 use ir_trees::ir::trees::Trees;
 use ir_trees::ir::unify::RightSide;
+use overlaps::instance::CommonInstance;
 use overlaps::specializing::Specialization;
 use kit::alloc::{AllocError, Global};
 use kit::collections::BTreeMap;
@@ -91,9 +94,9 @@ impl<'a> Asking<'a> {
     ) -> (Asking<'a>, Result<Result<(), Stop>, Fault<'b>>)
     {
         self.forget();
-        match rounds_alone(&mut words) {
-            Ok(count) => {
-                let (asking, made) = self.answered_with_findings(count);
+        match read_effort_alone(&mut words) {
+            Ok(effort) => {
+                let (asking, made) = self.answered_with_findings(effort);
                 (asking, Ok(made))
             }
             Err(fault) => (self, Err(fault)),
@@ -101,9 +104,9 @@ impl<'a> Asking<'a> {
     }
 
     /// Adds what is found, or that nothing is.
-    fn answered_with_findings(self, count: u16) -> (Asking<'a>, Result<(), Stop>)
+    fn answered_with_findings(self, effort: Effort) -> (Asking<'a>, Result<(), Stop>)
     {
-        let (mut asking, found) = self.with_findings(count);
+        let (mut asking, found) = self.with_findings(effort);
         let Ok(()) = found else {
             return (asking, found);
         };
@@ -121,7 +124,7 @@ impl<'a> Asking<'a> {
     }
 
     /// Adds what is found of each impl, in their order.
-    fn with_findings(self, count: u16) -> (Asking<'a>, Result<(), Stop>)
+    fn with_findings(self, effort: Effort) -> (Asking<'a>, Result<(), Stop>)
     {
         let mut asking = self;
         let impls = number_of(asking.scope.names.impls.len());
@@ -134,7 +137,7 @@ impl<'a> Asking<'a> {
             Err(stop) => return (asking, Err(stop)),
         };
         for number in 0..impls {
-            let (asked, made) = asking.with_impl(ImplId(number), &with_aliases, count);
+            let (asked, made) = asking.with_impl(ImplId(number), &with_aliases, effort);
             asking = asked;
             let Ok(()) = made else {
                 return (asking, made);
@@ -148,7 +151,7 @@ impl<'a> Asking<'a> {
         mut self,
         of: ImplId,
         with_aliases: &ImplsWithAliases,
-        count: u16,
+        effort: Effort,
     ) -> (Asking<'a>, Result<(), Stop>)
     {
         let made = self.look_at(of, with_aliases);
@@ -157,15 +160,15 @@ impl<'a> Asking<'a> {
             Ok(later) => later,
             Err(stop) => return (self, Err(stop)),
         };
-        let (asking, made) = self.with_lines(of, count);
+        let (asking, made) = self.with_lines(of, effort);
         match made {
-            Ok(()) => asking.with_pairs(of, later.as_slice(), count),
+            Ok(()) => asking.with_pairs(of, later.as_slice(), effort),
             Err(stop) => (asking, Err(stop)),
         }
     }
 
     /// Adds each line by which the impl is declared to specialise another one, but doesn't.
-    fn with_lines(self, of: ImplId, count: u16) -> (Asking<'a>, Result<(), Stop>)
+    fn with_lines(self, of: ImplId, effort: Effort) -> (Asking<'a>, Result<(), Stop>)
     {
         let mut asking = self;
         let lines = match lines_of(asking.scope.alloc, &asking.scope.maker, of) {
@@ -173,7 +176,7 @@ impl<'a> Asking<'a> {
             Err(stop) => return (asking, Err(stop)),
         };
         for place in 0..lines.len() {
-            let (asked, made) = asking.with_line(of, lines[place], count);
+            let (asked, made) = asking.with_line(of, lines[place], effort);
             asking = asked;
             let Ok(()) = made else {
                 return (asking, made);
@@ -187,10 +190,10 @@ impl<'a> Asking<'a> {
         self,
         special: ImplId,
         general: ImplId,
-        count: u16,
+        effort: Effort,
     ) -> (Asking<'a>, Result<(), Stop>)
     {
-        let (mut asking, answer) = self.tested(special, general, count);
+        let (mut asking, answer) = self.tested(special, general, effort);
         let made = asking.print_test(special, answer);
         asking.forget_nodes();
         (asking, made)
@@ -316,12 +319,12 @@ impl<'a> Asking<'a> {
         self,
         first: ImplId,
         later: &[ImplId],
-        count: u16,
+        effort: Effort,
     ) -> (Asking<'a>, Result<(), Stop>)
     {
         let mut asking = self;
         for place in 0..later.len() {
-            let (asked, made) = asking.with_pair(first, later[place], count);
+            let (asked, made) = asking.with_pair(first, later[place], effort);
             asking = asked;
             let Ok(()) = made else {
                 return (asking, made);
@@ -331,16 +334,22 @@ impl<'a> Asking<'a> {
     }
 
     /// Adds what is found of the two impls.
-    fn with_pair(self, first: ImplId, second: ImplId, count: u16) -> (Asking<'a>, Result<(), Stop>)
+    fn with_pair(
+        self,
+        first: ImplId,
+        second: ImplId,
+        effort: Effort,
+    ) -> (Asking<'a>, Result<(), Stop>)
     {
-        let (mut asking, found) = self.compare(first, second, count);
+        let (mut asking, found) = self.compare(first, second, effort);
         let made = asking.print_pair(first, second, found);
         asking.forget_nodes();
         (asking, made)
     }
 
     /// Adds what is an instance of the two impls, which of them specialises the other one, or that a call stopped, after which other pairs may
-    /// be asked still. A refused growth is handed on. Nothing is added where the impls are disjoint or their overlap is allowed.
+    /// be asked still. A refused growth is handed on. Nothing is added where the impls are disjoint or their overlap is allowed. An instance of two
+    /// positive impls is a lint where the headers' equation leaks a region.
     fn print_pair(
         &mut self,
         first: ImplId,
@@ -351,8 +360,9 @@ impl<'a> Asking<'a> {
         match found {
             Ok(Found::Nothing) => Ok(()),
             Ok(Found::Instance(instance)) => {
+                let words = words_before_found(&self.scope.maker, first, second, instance);
                 self.print_both(first, second)?;
-                self.print_instance(instance)
+                self.print_reference_after(words, instance)
             }
             Ok(Found::Specializes(special, general)) => self.print_special(special, general),
             Err(Stop::Memory) => Err(Stop::Memory),
@@ -422,12 +432,37 @@ impl<'a> Asking<'a> {
     }
 }
 
-/// In how many rounds, as `rounds` reads it, where nothing follows.
-pub(crate) fn rounds_alone<'a>(words: &mut Words<'a>) -> Result<u16, Fault<'a>>
+/// How long goals are computed, as `read_effort` reads it, where nothing follows.
+pub(crate) fn read_effort_alone<'a>(words: &mut Words<'a>) -> Result<Effort, Fault<'a>>
 {
-    let count = rounds(words)?;
+    let effort = read_effort(words)?;
     words.end()?;
-    Ok(count)
+    Ok(effort)
+}
+
+/// Whether the impl says that its trait holds.
+fn is_positive(cx: &Cx, of: ImplId) -> bool
+{
+    match cx.impl_contents(of) {
+        Some(contents) => matches!(contents.polarity, ImplPolarity::Positive),
+        None => false,
+    }
+}
+
+/// What `check` says before a reference that is an instance of both impls. A region that leaks keeps two positive ones apart, as far as rustc
+/// tells regions apart, which has a lint of such impls; a negative one beside a positive one is an error there all the same.
+fn words_before_found(
+    cx: &Cx,
+    first: ImplId,
+    second: ImplId,
+    instance: CommonInstance,
+) -> &'static str
+{
+    if instance.leaks && is_positive(cx, first) && is_positive(cx, second) {
+        "lint leak "
+    } else {
+        word_before_instance(instance)
+    }
 }
 
 /// Whether the impl is one of the local crate, and of a trait that isn't: one of a local trait may always be written.

@@ -5,6 +5,7 @@
 
 use kit::{eprintln, format, prelude::*, print, println, vec};
 use crate::asking::Asking;
+use candidate_rounds::rounds::effort::Effort;
 use ir_context::decl::context::Cx;
 use ir_trees::decl::contents::ImplId;
 use ir_trees::ir::stop::Stop;
@@ -49,20 +50,20 @@ fn as_said(cx: &Cx, special: ImplId, general: ImplId, by_line: bool) -> Option<(
 }
 
 impl<'a> Asking<'a> {
-    /// What is found of the two impls, in so many rounds for each where clause. A line by which one of them specialises the other one counts
+    /// What is found of the two impls, by that effort for each where clause. A line by which one of them specialises the other one counts
     /// where it is so.
     pub(crate) fn compare(
         self,
         first: ImplId,
         second: ImplId,
-        count: u16,
+        effort: Effort,
     ) -> (Asking<'a>, Result<Found, Stop>)
     {
-        let (asking, overlap) = self.overlapped(first, second, count);
+        let (asking, overlap) = self.overlapped(first, second, effort);
         match overlap {
-            Ok(Overlap::May(instance)) => asking.unless_apart(first, second, instance, count),
+            Ok(Overlap::May(instance)) => asking.unless_apart(first, second, instance, effort),
             Ok(Overlap::Allowed(Allowance::Specializes(_))) => {
-                asking.compare_declared(first, second, count)
+                asking.compare_declared(first, second, effort)
             }
             Ok(Overlap::Allowed(Allowance::Reservation)) => (asking, Ok(Found::Nothing)),
             Ok(Overlap::Allowed(Allowance::Marker)) => (asking, Ok(Found::Nothing)),
@@ -78,13 +79,13 @@ impl<'a> Asking<'a> {
         self,
         first: ImplId,
         second: ImplId,
-        count: u16,
+        effort: Effort,
     ) -> (Asking<'a>, Result<Found, Stop>)
     {
-        let (asking, special) = self.special_one(first, second, true, count);
+        let (asking, special) = self.special_one(first, second, true, effort);
         match special {
             Ok(Some(_)) => (asking, Ok(Found::Nothing)),
-            Ok(None) => asking.compare_anyway(first, second, count),
+            Ok(None) => asking.compare_anyway(first, second, effort),
             Err(stop) => (asking, Err(stop)),
         }
     }
@@ -94,12 +95,12 @@ impl<'a> Asking<'a> {
         self,
         first: ImplId,
         second: ImplId,
-        count: u16,
+        effort: Effort,
     ) -> (Asking<'a>, Result<Found, Stop>)
     {
-        let (asking, overlap) = self.overlapped_anyway(first, second, count);
+        let (asking, overlap) = self.overlapped_anyway(first, second, effort);
         match overlap {
-            Ok(Overlap::May(instance)) => asking.unless_apart(first, second, instance, count),
+            Ok(Overlap::May(instance)) => asking.unless_apart(first, second, instance, effort),
             Ok(Overlap::Allowed(_)) => (asking, Ok(Found::Nothing)),
             Ok(Overlap::NoCommonTrait) => (asking, Ok(Found::Nothing)),
             Ok(Overlap::DisjointHeaders) => (asking, Ok(Found::Nothing)),
@@ -115,13 +116,13 @@ impl<'a> Asking<'a> {
         first: ImplId,
         second: ImplId,
         instance: CommonInstance,
-        count: u16,
+        effort: Effort,
     ) -> (Asking<'a>, Result<Found, Stop>)
     {
-        let (asking, apart) = self.kept_apart(first, second, count);
+        let (asking, apart) = self.kept_apart(first, second, effort);
         match apart {
             Ok(true) => (asking, Ok(Found::Nothing)),
-            Ok(false) => asking.unless_negated(first, second, instance, count),
+            Ok(false) => asking.unless_negated(first, second, instance, effort),
             Err(stop) => (asking, Err(stop)),
         }
     }
@@ -133,16 +134,16 @@ impl<'a> Asking<'a> {
         first: ImplId,
         second: ImplId,
         instance: CommonInstance,
-        count: u16,
+        effort: Effort,
     ) -> (Asking<'a>, Result<Found, Stop>)
     {
         if !self.given.negative {
-            return self.unless_special(first, second, instance, count);
+            return self.unless_special(first, second, instance, effort);
         }
-        let (asking, clause) = self.negated(first, second, count);
+        let (asking, clause) = self.negated(first, second, effort);
         match clause {
             Ok(Some(_)) => (asking, Ok(Found::Nothing)),
-            Ok(None) => asking.unless_special(first, second, instance, count),
+            Ok(None) => asking.unless_special(first, second, instance, effort),
             Err(stop) => (asking, Err(stop)),
         }
     }
@@ -153,13 +154,13 @@ impl<'a> Asking<'a> {
         first: ImplId,
         second: ImplId,
         instance: CommonInstance,
-        count: u16,
+        effort: Effort,
     ) -> (Asking<'a>, Result<Found, Stop>)
     {
         if !self.given.specialization {
             return (self, Ok(Found::Instance(instance)));
         }
-        let (asking, special) = self.special_one(first, second, false, count);
+        let (asking, special) = self.special_one(first, second, false, effort);
         match special {
             Ok(Some((special, general))) => (asking, Ok(Found::Specializes(special, general))),
             Ok(None) => (asking, Ok(Found::Instance(instance))),
@@ -173,13 +174,13 @@ impl<'a> Asking<'a> {
         first: ImplId,
         second: ImplId,
         by_line: bool,
-        count: u16,
+        effort: Effort,
     ) -> (Asking<'a>, Result<Option<(ImplId, ImplId)>, Stop>)
     {
-        let (asking, is_first) = self.is_special(first, second, count);
+        let (asking, is_first) = self.is_special(first, second, effort);
         match is_first {
-            Ok(true) => asking.unless_other(first, second, by_line, count),
-            Ok(false) => asking.if_other(first, second, by_line, count),
+            Ok(true) => asking.unless_other(first, second, by_line, effort),
+            Ok(false) => asking.if_other(first, second, by_line, effort),
             Err(stop) => (asking, Err(stop)),
         }
     }
@@ -190,10 +191,10 @@ impl<'a> Asking<'a> {
         first: ImplId,
         second: ImplId,
         by_line: bool,
-        count: u16,
+        effort: Effort,
     ) -> (Asking<'a>, Result<Option<(ImplId, ImplId)>, Stop>)
     {
-        let (asking, is_second) = self.is_special(second, first, count);
+        let (asking, is_second) = self.is_special(second, first, effort);
         match is_second {
             Ok(false) => {
                 let found = as_said(&asking.scope.maker, first, second, by_line);
@@ -210,10 +211,10 @@ impl<'a> Asking<'a> {
         first: ImplId,
         second: ImplId,
         by_line: bool,
-        count: u16,
+        effort: Effort,
     ) -> (Asking<'a>, Result<Option<(ImplId, ImplId)>, Stop>)
     {
-        let (asking, is_second) = self.is_special(second, first, count);
+        let (asking, is_second) = self.is_special(second, first, effort);
         match is_second {
             Ok(true) => {
                 let found = as_said(&asking.scope.maker, second, first, by_line);
@@ -229,10 +230,10 @@ impl<'a> Asking<'a> {
         self,
         special: ImplId,
         general: ImplId,
-        count: u16,
+        effort: Effort,
     ) -> (Asking<'a>, Result<bool, Stop>)
     {
-        let (asking, answer) = self.tested(special, general, count);
+        let (asking, answer) = self.tested(special, general, effort);
         match answer {
             Ok(answer) => (asking, Ok(is_positive(answer))),
             Err(stop) => (asking, Err(stop)),

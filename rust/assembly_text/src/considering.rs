@@ -11,6 +11,7 @@ use candidate_eval::eval::certainty::Certainty;
 use candidate_eval::eval::response::Candidate;
 use candidate_eval::eval::source::CandidateSource;
 use candidate_rounds::rounds::Rounds;
+use candidate_rounds::rounds::effort::Effort;
 use candidate_rounds::rounds::goals::Verdict;
 use ir_context::decl::context::Cx;
 use ir_trees::ir::kinds::{Clause, ParamEnv, TraitPredicate};
@@ -68,13 +69,18 @@ fn listed_last(
     rounds: &mut Rounds,
     env: ParamEnv,
     predicate: TraitPredicate,
-    count: u16,
+    effort: Effort,
 ) -> Result<Vec<Listed>, Stop>
 {
-    if count == 1 {
-        return list_here(alloc, rounds, env, predicate);
+    match effort {
+        Effort::Rounds(1) => {}
+        Effort::Rounds(count) => {
+            run(alloc, rounds, env, predicate, Effort::Rounds(count - 1))?;
+        }
+        Effort::AsNeeded => {
+            run(alloc, rounds, env, predicate, effort)?;
+        }
     }
-    run(alloc, rounds, env, predicate, count - 1)?;
     list_here(alloc, rounds, env, predicate)
 }
 
@@ -84,12 +90,12 @@ fn listed_finally(
     rounds: &mut Rounds,
     env: ParamEnv,
     predicate: TraitPredicate,
-    count: u16,
+    effort: Effort,
 ) -> Result<Vec<Listed>, Stop>
 {
-    for _before in 1..count {
+    for _before in 1..effort.most_rounds() {
         let list = list_here(alloc, rounds, env, predicate)?;
-        let verdict = run(alloc, rounds, env, predicate, 1)?;
+        let verdict = run(alloc, rounds, env, predicate, Effort::Rounds(1))?;
         if is_final(verdict.as_ref()) {
             return Ok(list);
         }
@@ -103,13 +109,13 @@ fn list_in(
     rounds: &mut Rounds,
     clauses: &[Clause],
     predicate: TraitPredicate,
-    count: u16,
+    effort: Effort,
     is_final: bool,
 ) -> Result<Vec<Listed>, Stop>
 {
     match environment(rounds, clauses, predicate)? {
-        Some(env) if is_final => listed_finally(alloc, rounds, env, predicate, count),
-        Some(env) => listed_last(alloc, rounds, env, predicate, count),
+        Some(env) if is_final => listed_finally(alloc, rounds, env, predicate, effort),
+        Some(env) => listed_last(alloc, rounds, env, predicate, effort),
         None => Ok(Vec::new(alloc)),
     }
 }
@@ -120,14 +126,14 @@ fn list(
     cx: Cx,
     given: &Given,
     predicate: TraitPredicate,
-    count: u16,
+    effort: Effort,
     is_final: bool,
 ) -> (Cx, Result<Vec<Listed>, Stop>)
 {
     match evaluator(alloc, cx, given) {
         Ok(mut rounds) => {
             let clauses = given.clauses.as_slice();
-            let list = list_in(alloc, &mut rounds, clauses, predicate, count, is_final);
+            let list = list_in(alloc, &mut rounds, clauses, predicate, effort, is_final);
             (context_of(rounds), list)
         }
         Err((cx, stop)) => (cx, Err(stop)),
@@ -141,16 +147,16 @@ pub fn consider(
     cx: Cx,
     given: &Given,
     predicate: TraitPredicate,
-    count: u16,
+    effort: Effort,
 ) -> (Cx, Result<Considered, Stop>)
 {
-    let (cx, verdict) = solve(alloc, cx, given, predicate, count);
+    let (cx, verdict) = solve(alloc, cx, given, predicate, effort);
     let verdict = match verdict {
         Ok(verdict) => verdict,
         Err(stop) => return (cx, Err(stop)),
     };
     let is_final = is_final(verdict.as_ref());
-    let (cx, list) = list(alloc, cx, given, predicate, count, is_final);
+    let (cx, list) = list(alloc, cx, given, predicate, effort, is_final);
     match list {
         Ok(candidates) => (
             cx,

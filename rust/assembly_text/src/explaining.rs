@@ -10,6 +10,7 @@ use crate::solving::{context_of, environment, evaluator, run};
 use assembly_notation::given::Given;
 use candidate_rounds::rounds::Rounds;
 use candidate_rounds::rounds::derivation::DerivationTree;
+use candidate_rounds::rounds::effort::Effort;
 use candidate_rounds::rounds::goals::{GoalKey, Verdict};
 use ir_context::decl::context::Cx;
 use ir_trees::ir::kinds::{Args, Clause, ParamEnv, TraitPredicate};
@@ -139,13 +140,13 @@ fn rounds_of_goals(
     rounds: &mut Rounds,
     env: ParamEnv,
     predicate: TraitPredicate,
-    count: u16,
+    effort: Effort,
     goals: &[AskedGoal],
 ) -> Result<Vec<u16>, Stop>
 {
     let mut since = Vec::new(alloc);
-    for before in 0..count {
-        run(alloc, rounds, env, predicate, 1)?;
+    for before in 0..effort.most_rounds() {
+        run(alloc, rounds, env, predicate, Effort::Rounds(1))?;
         note_all(rounds, &mut since, before + 1)?;
         if are_noted(goals, since.as_slice()) {
             return Ok(since);
@@ -160,12 +161,12 @@ fn look_back_in(
     rounds: &mut Rounds,
     clauses: &[Clause],
     predicate: TraitPredicate,
-    count: u16,
+    effort: Effort,
     goals: &[AskedGoal],
 ) -> Result<Vec<u16>, Stop>
 {
     match environment(rounds, clauses, predicate)? {
-        Some(env) => rounds_of_goals(alloc, rounds, env, predicate, count, goals),
+        Some(env) => rounds_of_goals(alloc, rounds, env, predicate, effort, goals),
         None => Ok(Vec::new(alloc)),
     }
 }
@@ -176,14 +177,14 @@ fn look_back(
     cx: Cx,
     given: &Given,
     predicate: TraitPredicate,
-    count: u16,
+    effort: Effort,
     goals: &[AskedGoal],
 ) -> (Cx, Result<Vec<u16>, Stop>)
 {
     match evaluator(alloc, cx, given) {
         Ok(mut rounds) => {
             let clauses = given.clauses.as_slice();
-            let since = look_back_in(alloc, &mut rounds, clauses, predicate, count, goals);
+            let since = look_back_in(alloc, &mut rounds, clauses, predicate, effort, goals);
             (context_of(rounds), since)
         }
         Err((cx, stop)) => (cx, Err(stop)),
@@ -210,7 +211,7 @@ fn ask_why(
     rounds: &mut Rounds,
     clauses: &[Clause],
     predicate: TraitPredicate,
-    count: u16,
+    effort: Effort,
 ) -> Result<Explained, Stop>
 {
     let Some(env) = environment(rounds, clauses, predicate)? else {
@@ -219,7 +220,7 @@ fn ask_why(
             reasons: Reasons::Goals(Vec::new(alloc), Vec::new(alloc)),
         });
     };
-    let verdict = run(alloc, rounds, env, predicate, count)?;
+    let verdict = run(alloc, rounds, env, predicate, effort)?;
     let reasons = find_reasons(alloc, rounds, env, predicate)?;
     Ok(Explained { verdict, reasons })
 }
@@ -230,13 +231,13 @@ fn explain_run(
     cx: Cx,
     given: &Given,
     predicate: TraitPredicate,
-    count: u16,
+    effort: Effort,
 ) -> (Cx, Result<Explained, Stop>)
 {
     match evaluator(alloc, cx, given) {
         Ok(mut rounds) => {
             let clauses = given.clauses.as_slice();
-            let explained = ask_why(alloc, &mut rounds, clauses, predicate, count);
+            let explained = ask_why(alloc, &mut rounds, clauses, predicate, effort);
             (context_of(rounds), explained)
         }
         Err((cx, stop)) => (cx, Err(stop)),
@@ -249,7 +250,7 @@ fn with_rounds(
     cx: Cx,
     given: &Given,
     predicate: TraitPredicate,
-    count: u16,
+    effort: Effort,
     explained: Explained,
 ) -> (Cx, Result<Explained, Stop>)
 {
@@ -261,7 +262,7 @@ fn with_rounds(
             return (cx, Ok(Explained { verdict, reasons }));
         }
     };
-    let (cx, since) = look_back(alloc, cx, given, predicate, count, goals.as_slice());
+    let (cx, since) = look_back(alloc, cx, given, predicate, effort, goals.as_slice());
     match since {
         Ok(since) => {
             let reasons = Reasons::Goals(goals, since);
@@ -277,12 +278,12 @@ fn explain_by_rounds(
     cx: Cx,
     given: &Given,
     predicate: TraitPredicate,
-    count: u16,
+    effort: Effort,
 ) -> (Cx, Result<Explained, Stop>)
 {
-    let (cx, explained) = explain_run(alloc, cx, given, predicate, count);
+    let (cx, explained) = explain_run(alloc, cx, given, predicate, effort);
     match explained {
-        Ok(explained) => with_rounds(alloc, cx, given, predicate, count, explained),
+        Ok(explained) => with_rounds(alloc, cx, given, predicate, effort, explained),
         Err(stop) => (cx, Err(stop)),
     }
 }
@@ -325,11 +326,11 @@ pub fn explain(
     cx: Cx,
     given: &Given,
     predicate: TraitPredicate,
-    count: u16,
+    effort: Effort,
     tells_open: bool,
 ) -> (Cx, Result<Explained, Stop>)
 {
-    let (cx, explained) = explain_by_rounds(alloc, cx, given, predicate, count);
+    let (cx, explained) = explain_by_rounds(alloc, cx, given, predicate, effort);
     match explained {
         Ok(explained) => with_open_goals(
             alloc,

@@ -383,6 +383,10 @@ impl Object<'_, '_> {
         self.writer.end_array()?;
         if specializes {
             self.add_text("kind", "specializes")?;
+        } else if is_pair && words.next_is("lint") {
+            words.next_is("leak");
+            self.add_text("kind", "leak lint")?;
+            self.add_tree("instance", words)?;
         } else if is_pair {
             self.add_text("kind", "overlap")?;
             self.add_overlap(words)?;

@@ -8,6 +8,7 @@ use crate::asking::Asking;
 use crate::checking::{ImplsWithAliases, later_impls, number_of};
 use crate::comparing::Found;
 use crate::telling::name_of_impl;
+use candidate_rounds::rounds::effort::Effort;
 use ir_trees::decl::contents::ImplId;
 use ir_trees::ir::stop::Stop;
 
@@ -20,13 +21,13 @@ pub(crate) struct OpenPair {
 
 impl<'a> Asking<'a> {
     /// Adds why impls may overlap, pair by pair. Each pair begins with a line `why NAME NAME:`, and what follows are the lines of that query.
-    pub(crate) fn add_reasons_of_pairs(mut self, count: u16) -> (Asking<'a>, Result<(), Stop>)
+    pub(crate) fn add_reasons_of_pairs(mut self, effort: Effort) -> (Asking<'a>, Result<(), Stop>)
     {
         self.forget_nodes();
         let mut pairs = Vec::new(self.scope.alloc);
-        let (asking, made) = self.push_open_pairs(count, &mut pairs);
+        let (asking, made) = self.push_open_pairs(effort, &mut pairs);
         match made {
-            Ok(()) => asking.add_reasons_of_each(pairs.as_slice(), count),
+            Ok(()) => asking.add_reasons_of_each(pairs.as_slice(), effort),
             Err(stop) => (asking, Err(stop)),
         }
     }
@@ -34,7 +35,7 @@ impl<'a> Asking<'a> {
     /// Adds to the pairs all that may overlap but don't certainly, in the order in which `check` finds them. Nothing is added to the answer.
     fn push_open_pairs(
         self,
-        count: u16,
+        effort: Effort,
         pairs: &mut Vec<OpenPair>,
     ) -> (Asking<'a>, Result<(), Stop>)
     {
@@ -49,7 +50,7 @@ impl<'a> Asking<'a> {
             Err(stop) => return (asking, Err(stop)),
         };
         for number in 0..impls {
-            let (asked, made) = asking.push_pairs_of(ImplId(number), &with_aliases, count, pairs);
+            let (asked, made) = asking.push_pairs_of(ImplId(number), &with_aliases, effort, pairs);
             asking = asked;
             let Ok(()) = made else {
                 return (asking, made);
@@ -63,7 +64,7 @@ impl<'a> Asking<'a> {
         mut self,
         of: ImplId,
         with_aliases: &ImplsWithAliases,
-        count: u16,
+        effort: Effort,
         pairs: &mut Vec<OpenPair>,
     ) -> (Asking<'a>, Result<(), Stop>)
     {
@@ -79,7 +80,7 @@ impl<'a> Asking<'a> {
                 first: of,
                 second: later[place],
             };
-            let (asked, made) = asking.push_if_open(pair, count, pairs);
+            let (asked, made) = asking.push_if_open(pair, effort, pairs);
             asking = asked;
             let Ok(()) = made else {
                 return (asking, made);
@@ -110,11 +111,11 @@ impl<'a> Asking<'a> {
     fn push_if_open(
         self,
         pair: OpenPair,
-        count: u16,
+        effort: Effort,
         pairs: &mut Vec<OpenPair>,
     ) -> (Asking<'a>, Result<(), Stop>)
     {
-        let (mut asking, found) = self.compare(pair.first, pair.second, count);
+        let (mut asking, found) = self.compare(pair.first, pair.second, effort);
         asking.forget_nodes();
         let made = match found {
             Ok(Found::Instance(instance)) if !instance.is_certain => pushed(pairs, pair),
@@ -125,11 +126,15 @@ impl<'a> Asking<'a> {
     }
 
     /// Adds why the impls of each of the pairs may overlap.
-    fn add_reasons_of_each(self, pairs: &[OpenPair], count: u16) -> (Asking<'a>, Result<(), Stop>)
+    fn add_reasons_of_each(
+        self,
+        pairs: &[OpenPair],
+        effort: Effort,
+    ) -> (Asking<'a>, Result<(), Stop>)
     {
         let mut asking = self;
         for place in 0..pairs.len() {
-            let (asked, made) = asking.add_reasons_of_pair(pairs[place], count);
+            let (asked, made) = asking.add_reasons_of_pair(pairs[place], effort);
             asking = asked;
             let Ok(()) = made else {
                 return (asking, made);
@@ -139,13 +144,13 @@ impl<'a> Asking<'a> {
     }
 
     /// Adds why the impls of the pair may overlap, behind a line that names them.
-    fn add_reasons_of_pair(self, pair: OpenPair, count: u16) -> (Asking<'a>, Result<(), Stop>)
+    fn add_reasons_of_pair(self, pair: OpenPair, effort: Effort) -> (Asking<'a>, Result<(), Stop>)
     {
         let mut asking = self;
         asking.forget_nodes();
         let made = asking.print_heading(pair);
         match made {
-            Ok(()) => asking.add_reasons(pair.first, pair.second, count),
+            Ok(()) => asking.add_reasons(pair.first, pair.second, effort),
             Err(stop) => (asking, Err(stop)),
         }
     }

@@ -109,10 +109,20 @@ impl Asking<'_> {
     /// Adds whether it is certain, and the reference that is an instance of both.
     pub(crate) fn print_instance(&mut self, instance: CommonInstance) -> Result<(), Stop>
     {
+        self.print_reference_after(word_before_instance(instance), instance)
+    }
+
+    /// Adds these words, and the reference that is an instance of both.
+    pub(crate) fn print_reference_after(
+        &mut self,
+        words: &str,
+        instance: CommonInstance,
+    ) -> Result<(), Stop>
+    {
         let mut word = String::new(self.scope.alloc);
         self.scope
             .print_reference(instance.trait_ref, MAX_DEPTH, &mut word)?;
-        self.answer.push_str(word_before_instance(instance))?;
+        self.answer.push_str(words)?;
         self.answer.push_str(word.as_str())?;
         self.answer.push_str("\n")?;
         Ok(())
@@ -320,7 +330,7 @@ fn word_of_allowance(first: ImplId, reason: Allowance) -> &'static str
 }
 
 /// What stands before a reference that is an instance of both impls.
-fn word_before_instance(instance: CommonInstance) -> &'static str
+pub(crate) fn word_before_instance(instance: CommonInstance) -> &'static str
 {
     if instance.is_certain {
         "overlap "

@@ -4,7 +4,7 @@
 
 
 use kit::{eprintln, format, prelude::*, print, println, vec};
-use crate::asking::{Asking, rounds};
+use crate::asking::{Asking, read_effort};
 use crate::explaining::{AskedGoal, asked_goals};
 use crate::refusals::print_serving;
 use crate::solving::{context_of, open_evaluator};
@@ -16,6 +16,7 @@ use assembly_notation::words::Words;
 use candidate_eval::coherence::Conflict;
 use candidate_eval::eval::clauses::predicate_in;
 use candidate_rounds::rounds::Rounds;
+use candidate_rounds::rounds::effort::Effort;
 use candidate_rounds::rounds::normalizing::canonical_args;
 use ir_context::decl::context::Cx;
 use ir_context::decl::make::Build;
@@ -61,10 +62,10 @@ fn find_open(
     rounds: &mut Rounds,
     first: ImplId,
     second: ImplId,
-    count: u16,
+    effort: Effort,
 ) -> Result<Reasoned, Stop>
 {
-    let clauses = open_clauses(alloc, rounds, first, second, count)?;
+    let clauses = open_clauses(alloc, rounds, first, second, effort)?;
     let goals = asked_goals(alloc, rounds)?;
     Ok(Reasoned { clauses, goals })
 }
@@ -77,12 +78,12 @@ fn ask_reasoned(
     given: &Given,
     first: ImplId,
     second: ImplId,
-    count: u16,
+    effort: Effort,
 ) -> (Cx, Result<Reasoned, Stop>)
 {
     match open_evaluator(alloc, cx, given) {
         Ok(mut rounds) => {
-            let reasoned = find_open(alloc, &mut rounds, first, second, count);
+            let reasoned = find_open(alloc, &mut rounds, first, second, effort);
             (context_of(rounds), reasoned)
         }
         Err((cx, stop)) => (cx, Err(stop)),
@@ -92,7 +93,7 @@ fn ask_reasoned(
 impl<'a> Asking<'a> {
     /// Whether the line asks about impls: the first word behind the rounds is the name of one.
     pub(crate) fn names_impl<'b>(&self, mut words: Words<'b>) -> bool {
-        if rounds(&mut words).is_err() {
+        if read_effort(&mut words).is_err() {
             return false;
         }
         let named: Result<ImplId, Fault<'b>> = self.scope.names.next_named(&mut words);
@@ -107,8 +108,8 @@ impl<'a> Asking<'a> {
     {
         self.forget();
         match self.two_impls(&mut words) {
-            Ok((count, first, second)) => {
-                let (asking, made) = self.overlap_with_reasons(first, second, count);
+            Ok((effort, first, second)) => {
+                let (asking, made) = self.overlap_with_reasons(first, second, effort);
                 (asking, Ok(made))
             }
             Err(fault) => (self, Err(fault)),
@@ -120,12 +121,12 @@ impl<'a> Asking<'a> {
         self,
         first: ImplId,
         second: ImplId,
-        count: u16,
+        effort: Effort,
     ) -> (Asking<'a>, Result<(), Stop>)
     {
-        let (asking, made) = self.answered_with_overlap(first, second, count);
+        let (asking, made) = self.answered_with_overlap(first, second, effort);
         match made {
-            Ok(()) => asking.add_reasons(first, second, count),
+            Ok(()) => asking.add_reasons(first, second, effort),
             Err(stop) => (asking, Err(stop)),
         }
     }
@@ -135,11 +136,11 @@ impl<'a> Asking<'a> {
         self,
         first: ImplId,
         second: ImplId,
-        count: u16,
+        effort: Effort,
     ) -> (Asking<'a>, Result<(), Stop>)
     {
-        let (asking, reason) = self.reason_of(first, second, count);
-        let (mut asking, reasoned) = asking.reasoned(first, second, count);
+        let (asking, reason) = self.reason_of(first, second, effort);
+        let (mut asking, reasoned) = asking.reasoned(first, second, effort);
         let made = asking.print_reason(reason, reasoned);
         (asking, made)
     }
@@ -149,10 +150,10 @@ impl<'a> Asking<'a> {
         self,
         first: ImplId,
         second: ImplId,
-        count: u16,
+        effort: Effort,
     ) -> (Asking<'a>, Result<Reason, Stop>)
     {
-        let (asking, overlap) = self.overlapped(first, second, count);
+        let (asking, overlap) = self.overlapped(first, second, effort);
         match overlap {
             Ok(Overlap::DisjointHeaders) => (asking, Ok(Reason::Headers(first, second))),
             Ok(Overlap::DisjointClause(place)) => (asking, Ok(Reason::Refused(place))),
@@ -160,7 +161,7 @@ impl<'a> Asking<'a> {
                 if instance.is_certain {
                     return (asking, Ok(Reason::Nothing));
                 }
-                asking.reason_unless_apart(first, second, count)
+                asking.reason_unless_apart(first, second, effort)
             }
             Ok(Overlap::Allowed(_)) => (asking, Ok(Reason::Nothing)),
             Ok(Overlap::NoCommonTrait) => (asking, Ok(Reason::Nothing)),
@@ -173,13 +174,13 @@ impl<'a> Asking<'a> {
         self,
         first: ImplId,
         second: ImplId,
-        count: u16,
+        effort: Effort,
     ) -> (Asking<'a>, Result<Reason, Stop>)
     {
-        let (asking, apart) = self.kept_apart(first, second, count);
+        let (asking, apart) = self.kept_apart(first, second, effort);
         match apart {
             Ok(true) => (asking, Ok(Reason::Nothing)),
-            Ok(false) => asking.reason_unless_negated(first, second, count),
+            Ok(false) => asking.reason_unless_negated(first, second, effort),
             Err(stop) => (asking, Err(stop)),
         }
     }
@@ -190,13 +191,13 @@ impl<'a> Asking<'a> {
         self,
         first: ImplId,
         second: ImplId,
-        count: u16,
+        effort: Effort,
     ) -> (Asking<'a>, Result<Reason, Stop>)
     {
         if !self.given.negative {
             return (self, Ok(Reason::Open(first, second)));
         }
-        let (asking, clause) = self.negated(first, second, count);
+        let (asking, clause) = self.negated(first, second, effort);
         match clause {
             Ok(Some(place)) => (asking, Ok(Reason::Negated(place))),
             Ok(None) => (asking, Ok(Reason::Open(first, second))),
@@ -209,11 +210,11 @@ impl<'a> Asking<'a> {
         self,
         first: ImplId,
         second: ImplId,
-        count: u16,
+        effort: Effort,
     ) -> (Asking<'a>, Result<Reasoned, Stop>)
     {
         let (maker, rest) = self.apart();
-        let (maker, reasoned) = ask_reasoned(rest.alloc, maker, &rest.given, first, second, count);
+        let (maker, reasoned) = ask_reasoned(rest.alloc, maker, &rest.given, first, second, effort);
         (rest.with(maker), reasoned)
     }
 

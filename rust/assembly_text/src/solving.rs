@@ -11,6 +11,7 @@ use candidate_eval::eval::refusal::NoSolutionOrStop;
 use candidate_eval::eval::response::CanonicalResponse;
 use candidate_eval::eval::variable::VariableKind;
 use candidate_rounds::rounds::Rounds;
+use candidate_rounds::rounds::effort::Effort;
 use candidate_rounds::rounds::given::may_be_listed;
 use candidate_rounds::rounds::goals::Verdict;
 use candidate_rounds::rounds::normalizing::trait_predicate;
@@ -111,13 +112,13 @@ pub(crate) fn run(
     rounds: &mut Rounds,
     env: ParamEnv,
     predicate: TraitPredicate,
-    count: u16,
+    effort: Effort,
 ) -> Result<Option<Verdict>, Stop>
 {
     if !rounds.may_be_run(alloc, env, predicate)? {
         return Ok(None);
     }
-    Ok(Some(rounds.run(alloc, env, predicate, count)?))
+    Ok(Some(rounds.run_by(alloc, env, predicate, effort)?))
 }
 
 /// The environment of these clauses, with root variables made if the goal has variables; `None` where a bound variable escapes from the goal.
@@ -144,11 +145,11 @@ fn ask(
     rounds: &mut Rounds,
     clauses: &[Clause],
     predicate: TraitPredicate,
-    count: u16,
+    effort: Effort,
 ) -> Result<Option<Verdict>, Stop>
 {
     match environment(rounds, clauses, predicate)? {
-        Some(env) => run(alloc, rounds, env, predicate, count),
+        Some(env) => run(alloc, rounds, env, predicate, effort),
         None => Ok(None),
     }
 }
@@ -205,13 +206,13 @@ pub fn solve(
     cx: Cx,
     given: &Given,
     predicate: TraitPredicate,
-    count: u16,
+    effort: Effort,
 ) -> (Cx, Result<Option<Verdict>, Stop>)
 {
     match evaluator(alloc, cx, given) {
         Ok(mut rounds) => {
             let clauses = given.clauses.as_slice();
-            let verdict = ask(alloc, &mut rounds, clauses, predicate, count);
+            let verdict = ask(alloc, &mut rounds, clauses, predicate, effort);
             (context_of(rounds), verdict)
         }
         Err((cx, stop)) => (cx, Err(stop)),
@@ -224,10 +225,10 @@ fn ask_for_values(
     rounds: &mut Rounds,
     clauses: &[Clause],
     predicate: TraitPredicate,
-    count: u16,
+    effort: Effort,
 ) -> Result<Solved, Stop>
 {
-    let verdict = ask(alloc, rounds, clauses, predicate, count)?;
+    let verdict = ask(alloc, rounds, clauses, predicate, effort)?;
     let values = match verdict {
         Some(Verdict::Yes(_, _)) => found(alloc, rounds, clauses, predicate)?,
         _ => Vec::new(alloc),
@@ -242,13 +243,13 @@ pub fn solve_for_values(
     cx: Cx,
     given: &Given,
     predicate: TraitPredicate,
-    count: u16,
+    effort: Effort,
 ) -> (Cx, Result<Solved, Stop>)
 {
     match evaluator(alloc, cx, given) {
         Ok(mut rounds) => {
             let clauses = given.clauses.as_slice();
-            let solved = ask_for_values(alloc, &mut rounds, clauses, predicate, count);
+            let solved = ask_for_values(alloc, &mut rounds, clauses, predicate, effort);
             (context_of(rounds), solved)
         }
         Err((cx, stop)) => (cx, Err(stop)),
@@ -274,10 +275,10 @@ fn normal_after(
     rounds: &mut Rounds,
     env: ParamEnv,
     alias: AliasTy,
-    count: u16,
+    effort: Effort,
 ) -> Result<Normal, Stop>
 {
-    match rounds.normalize(alloc, env, alias, count)? {
+    match rounds.normalize(alloc, env, alias, effort)? {
         Some(response) => Ok(Normal::Answered(response)),
         None => Ok(Normal::Refused),
     }
@@ -289,14 +290,14 @@ fn settled_normal(
     rounds: &mut Rounds,
     env: ParamEnv,
     alias: AliasTy,
-    count: u16,
+    effort: Effort,
 ) -> Result<Normal, Stop>
 {
     let predicate = trait_predicate(rounds.cx(), alias);
-    match rounds.run(alloc, env, predicate, count)? {
+    match rounds.run_by(alloc, env, predicate, effort)? {
         Verdict::Maybe(_, _) => Ok(Normal::Open),
         Verdict::Refused => Ok(Normal::Refused),
-        Verdict::Yes(_, _) => normal_after(alloc, rounds, env, alias, count),
+        Verdict::Yes(_, _) => normal_after(alloc, rounds, env, alias, effort),
     }
 }
 
@@ -307,7 +308,7 @@ fn run_normal(
     rounds: &mut Rounds,
     env: ParamEnv,
     alias: AliasTy,
-    count: u16,
+    effort: Effort,
     waits: bool,
 ) -> Result<Normal, Stop>
 {
@@ -316,9 +317,9 @@ fn run_normal(
         return Ok(Normal::Unasked);
     }
     if waits {
-        return settled_normal(alloc, rounds, env, alias, count);
+        return settled_normal(alloc, rounds, env, alias, effort);
     }
-    normal_after(alloc, rounds, env, alias, count)
+    normal_after(alloc, rounds, env, alias, effort)
 }
 
 /// What the projection comes to under these clauses, as `run_normal` has it.
@@ -327,7 +328,7 @@ fn ask_normal(
     rounds: &mut Rounds,
     clauses: &[Clause],
     alias: AliasTy,
-    count: u16,
+    effort: Effort,
     waits: bool,
 ) -> Result<Normal, Stop>
 {
@@ -336,7 +337,7 @@ fn ask_normal(
     }
     let under = rounds.mk_param_env(clauses)?;
     add_roots(rounds, alias.args)?;
-    run_normal(alloc, rounds, under, alias, count, waits)
+    run_normal(alloc, rounds, under, alias, effort, waits)
 }
 
 /// What a projection comes to in a new evaluator, in so many rounds at most; and the context, with the nodes that were made meanwhile.
@@ -347,14 +348,14 @@ pub fn normalize(
     cx: Cx,
     given: &Given,
     alias: AliasTy,
-    count: u16,
+    effort: Effort,
     waits: bool,
 ) -> (Cx, Result<Normal, Stop>)
 {
     match evaluator(alloc, cx, given) {
         Ok(mut rounds) => {
             let clauses = given.clauses.as_slice();
-            let normal = ask_normal(alloc, &mut rounds, clauses, alias, count, waits);
+            let normal = ask_normal(alloc, &mut rounds, clauses, alias, effort, waits);
             (context_of(rounds), normal)
         }
         Err((cx, stop)) => (cx, Err(stop)),
@@ -369,12 +370,12 @@ pub fn overlap(
     given: &Given,
     first: ImplId,
     second: ImplId,
-    count: u16,
+    effort: Effort,
 ) -> (Cx, Result<Overlap, Stop>)
 {
     match open_evaluator(alloc, cx, given) {
         Ok(mut rounds) => {
-            let overlap = impls_overlap(alloc, &mut rounds, first, second, count);
+            let overlap = impls_overlap(alloc, &mut rounds, first, second, effort);
             (context_of(rounds), overlap)
         }
         Err((cx, stop)) => (cx, Err(stop)),
@@ -388,12 +389,12 @@ pub fn overlap_anyway(
     given: &Given,
     first: ImplId,
     second: ImplId,
-    count: u16,
+    effort: Effort,
 ) -> (Cx, Result<Overlap, Stop>)
 {
     match open_evaluator(alloc, cx, given) {
         Ok(mut rounds) => {
-            let overlap = impls_overlap_anyway(alloc, &mut rounds, first, second, count);
+            let overlap = impls_overlap_anyway(alloc, &mut rounds, first, second, effort);
             (context_of(rounds), overlap)
         }
         Err((cx, stop)) => (cx, Err(stop)),
@@ -408,12 +409,12 @@ pub fn apart_by_clauses(
     given: &Given,
     first: ImplId,
     second: ImplId,
-    count: u16,
+    effort: Effort,
 ) -> (Cx, Result<bool, Stop>)
 {
     match open_evaluator(alloc, cx, given) {
         Ok(mut rounds) => {
-            let apart = kept_apart_by_clauses(alloc, &mut rounds, first, second, count);
+            let apart = kept_apart_by_clauses(alloc, &mut rounds, first, second, effort);
             (context_of(rounds), apart)
         }
         Err((cx, stop)) => (cx, Err(stop)),
@@ -441,12 +442,12 @@ pub fn test_specialization(
     given: &Given,
     special: ImplId,
     general: ImplId,
-    count: u16,
+    effort: Effort,
 ) -> (Cx, Result<Specialization, Stop>)
 {
     match tester(alloc, cx, given) {
         Ok(mut rounds) => {
-            let answer = specializes(alloc, &mut rounds, special, general, count);
+            let answer = specializes(alloc, &mut rounds, special, general, effort);
             (context_of(rounds), answer)
         }
         Err((cx, stop)) => (cx, Err(stop)),
@@ -461,12 +462,12 @@ pub fn negated_clause(
     given: &Given,
     first: ImplId,
     second: ImplId,
-    count: u16,
+    effort: Effort,
 ) -> (Cx, Result<Option<WhereClause>, Stop>)
 {
     match tester(alloc, cx, given) {
         Ok(mut rounds) => {
-            let clause = kept_apart_by_negation(alloc, &mut rounds, first, second, count);
+            let clause = kept_apart_by_negation(alloc, &mut rounds, first, second, effort);
             (context_of(rounds), clause)
         }
         Err((cx, stop)) => (cx, Err(stop)),

@@ -15,6 +15,7 @@ use assembly_notation::words::Words;
 use candidate_eval::eval::clauses::predicate_in;
 use candidate_eval::eval::source::{BuiltinImplSource, CandidateSource, ParamEnvSource};
 use candidate_rounds::rounds::derivation::DerivationStep;
+use candidate_rounds::rounds::effort::Effort;
 use ir_context::decl::context::Cx;
 use ir_trees::decl::contents::{AliasBoundKind, ImplId};
 use ir_trees::ir::kinds::{
@@ -32,8 +33,8 @@ impl<'a> Asking<'a> {
     {
         self.forget();
         match self.goal(&mut words) {
-            Ok((count, predicate)) => {
-                let (asking, made) = self.answered_with_reasons(predicate, count);
+            Ok((effort, predicate)) => {
+                let (asking, made) = self.answered_with_reasons(predicate, effort);
                 (asking, Ok(made))
             }
             Err(fault) => (self, Err(fault)),
@@ -44,10 +45,10 @@ impl<'a> Asking<'a> {
     fn answered_with_reasons(
         self,
         predicate: TraitPredicate,
-        count: u16,
+        effort: Effort,
     ) -> (Asking<'a>, Result<(), Stop>)
     {
-        let (mut asking, explained) = self.explained(predicate, count);
+        let (mut asking, explained) = self.explained(predicate, effort);
         let made = asking.print_explained(explained);
         (asking, made)
     }
@@ -56,7 +57,7 @@ impl<'a> Asking<'a> {
     fn explained(
         self,
         predicate: TraitPredicate,
-        count: u16,
+        effort: Effort,
     ) -> (Asking<'a>, Result<Explained, Stop>)
     {
         let (maker, rest) = self.apart();
@@ -65,7 +66,7 @@ impl<'a> Asking<'a> {
             maker,
             &rest.given,
             predicate,
-            count,
+            effort,
             rest.reasons,
         );
         (rest.with(maker), explained)
@@ -97,10 +98,10 @@ impl<'a> Asking<'a> {
     pub(crate) fn add_reasons_of_goal(
         self,
         predicate: TraitPredicate,
-        count: u16,
+        effort: Effort,
     ) -> (Asking<'a>, Result<(), Stop>)
     {
-        let (mut asking, explained) = self.explained(predicate, count);
+        let (mut asking, explained) = self.explained(predicate, effort);
         let made = asking.print_lines(explained);
         (asking, made)
     }
@@ -129,8 +130,8 @@ impl<'a> Asking<'a> {
     {
         self.forget();
         match self.goal(&mut words) {
-            Ok((count, predicate)) => {
-                let (asking, made) = self.answered_with_candidates(predicate, count);
+            Ok((effort, predicate)) => {
+                let (asking, made) = self.answered_with_candidates(predicate, effort);
                 (asking, Ok(made))
             }
             Err(fault) => (self, Err(fault)),
@@ -141,10 +142,10 @@ impl<'a> Asking<'a> {
     fn answered_with_candidates(
         self,
         predicate: TraitPredicate,
-        count: u16,
+        effort: Effort,
     ) -> (Asking<'a>, Result<(), Stop>)
     {
-        let (mut asking, considered) = self.considered(predicate, count);
+        let (mut asking, considered) = self.considered(predicate, effort);
         let made = asking.print_considered(considered);
         (asking, made)
     }
@@ -153,11 +154,11 @@ impl<'a> Asking<'a> {
     fn considered(
         self,
         predicate: TraitPredicate,
-        count: u16,
+        effort: Effort,
     ) -> (Asking<'a>, Result<Considered, Stop>)
     {
         let (maker, rest) = self.apart();
-        let (maker, considered) = consider(rest.alloc, maker, &rest.given, predicate, count);
+        let (maker, considered) = consider(rest.alloc, maker, &rest.given, predicate, effort);
         (rest.with(maker), considered)
     }
 

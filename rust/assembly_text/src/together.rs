@@ -6,6 +6,7 @@
 use kit::{eprintln, format, prelude::*, print, println, vec};
 use crate::asking::Asking;
 use crate::solving::{apart_by_clauses, negated_clause};
+use candidate_rounds::rounds::effort::Effort;
 use ir_trees::decl::contents::ImplId;
 use ir_trees::ir::stop::Stop;
 use overlaps::instance::CommonInstance;
@@ -30,12 +31,12 @@ impl<'a> Asking<'a> {
         self,
         first: ImplId,
         second: ImplId,
-        count: u16,
+        effort: Effort,
     ) -> (Asking<'a>, Result<(), Stop>)
     {
-        let (mut asking, overlap) = self.overlapped(first, second, count);
+        let (mut asking, overlap) = self.overlapped(first, second, effort);
         match instance_of(overlap) {
-            Some(instance) => asking.answered_unless_apart(first, second, instance, count),
+            Some(instance) => asking.answered_unless_apart(first, second, instance, effort),
             None => {
                 let made = asking.print_overlap(first, overlap);
                 (asking, made)
@@ -50,10 +51,10 @@ impl<'a> Asking<'a> {
         first: ImplId,
         second: ImplId,
         instance: CommonInstance,
-        count: u16,
+        effort: Effort,
     ) -> (Asking<'a>, Result<(), Stop>)
     {
-        let (mut asking, apart) = self.kept_apart(first, second, count);
+        let (mut asking, apart) = self.kept_apart(first, second, effort);
         match apart {
             Ok(true) => {
                 let made = asking.print_apart();
@@ -61,7 +62,7 @@ impl<'a> Asking<'a> {
             }
             Ok(false) => {
                 if asking.given.negative {
-                    return asking.answered_unless_negated(first, second, instance, count);
+                    return asking.answered_unless_negated(first, second, instance, effort);
                 }
                 let made = asking.print_instance(instance);
                 (asking, made)
@@ -76,10 +77,10 @@ impl<'a> Asking<'a> {
         first: ImplId,
         second: ImplId,
         instance: CommonInstance,
-        count: u16,
+        effort: Effort,
     ) -> (Asking<'a>, Result<(), Stop>)
     {
-        let (mut asking, clause) = self.negated(first, second, count);
+        let (mut asking, clause) = self.negated(first, second, effort);
         let made = asking.print_unless_negated(first, instance, clause);
         (asking, made)
     }
@@ -89,11 +90,18 @@ impl<'a> Asking<'a> {
         self,
         first: ImplId,
         second: ImplId,
-        count: u16,
+        effort: Effort,
     ) -> (Asking<'a>, Result<bool, Stop>)
     {
         let (maker, rest) = self.apart();
-        let (maker, apart) = apart_by_clauses(rest.alloc, maker, &rest.given, first, second, count);
+        let (maker, apart) = apart_by_clauses(
+            rest.alloc,
+            maker,
+            &rest.given,
+            first,
+            second,
+            effort,
+        );
         (rest.with(maker), apart)
     }
 
@@ -102,11 +110,11 @@ impl<'a> Asking<'a> {
         self,
         first: ImplId,
         second: ImplId,
-        count: u16,
+        effort: Effort,
     ) -> (Asking<'a>, Result<Option<WhereClause>, Stop>)
     {
         let (maker, rest) = self.apart();
-        let (maker, clause) = negated_clause(rest.alloc, maker, &rest.given, first, second, count);
+        let (maker, clause) = negated_clause(rest.alloc, maker, &rest.given, first, second, effort);
         (rest.with(maker), clause)
     }
 }

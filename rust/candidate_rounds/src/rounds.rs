@@ -6,6 +6,8 @@ use kit::{eprintln, format, prelude::*, print, println, vec};
 mod binding;
 pub mod cleanness;
 pub mod derivation;
+mod due;
+pub mod effort;
 mod equating;
 pub mod evaluator;
 mod fresh;

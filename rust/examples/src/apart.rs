@@ -7,6 +7,7 @@ use kit::{eprintln, format, prelude::*, print, println, vec};
 use candidate_ir::decl::contents::ImplId;
 use candidate_ir::ir::stop::Stop;
 use candidate_rounds::rounds::Rounds;
+use candidate_rounds::rounds::effort::Effort;
 use overlaps::overlap::{Overlap, WhereClause, impls_overlap};
 use kit::alloc::Global;
 
@@ -19,7 +20,7 @@ pub enum Reason {
     Clause(WhereClause),
 }
 
-/// What keeps the two impls apart, in so many rounds for each where clause, if anything does.
+/// What keeps the two impls apart, by that effort for each where clause, if anything does.
 ///
 /// After `Headers` no reference is an instance of both, whatever the aliases are that aren't listed. After `Clause` what that clause asks for
 /// was refused, where the headers are equal: each declared impl that overlaps it was, but for `default` impls and those with an alias in
@@ -33,10 +34,10 @@ pub fn kept_apart(
     rounds: &mut Rounds,
     first: ImplId,
     second: ImplId,
-    count: u16,
+    effort: Effort,
 ) -> Result<Option<Reason>, Stop>
 {
-    match impls_overlap(alloc, rounds, first, second, count)? {
+    match impls_overlap(alloc, rounds, first, second, effort)? {
         Overlap::DisjointHeaders => Ok(Some(Reason::Headers)),
         Overlap::DisjointClause(clause) => Ok(Some(Reason::Clause(clause))),
         Overlap::NoCommonTrait | Overlap::Allowed(_) | Overlap::May(_) => Ok(None),

@@ -9,6 +9,7 @@ use crate::plain::{is_in_coherence, is_refused, is_resolved, is_without_aliases}
 use candidate_eval::eval::clauses::{predicate_in, substitute};
 use candidate_eval::eval::context::{EvalCtxt, ProbeKind};
 use candidate_rounds::rounds::Rounds;
+use candidate_rounds::rounds::effort::Effort;
 use ir_context::decl::make::Make;
 use ir_trees::ir::kinds::{Args, Clause, ParamEnv, TraitPredicate};
 use ir_trees::ir::stop::Stop;
@@ -39,13 +40,13 @@ pub fn may_decide(
     Ok(rounds.stands_here(alloc, env, predicate))
 }
 
-/// Runs the goal for so many rounds where it stands at what is known, so that the table has what it comes to.
+/// Runs the goal by that effort where it stands at what is known, so that the table has what it comes to.
 fn run_where_it_stands(
     alloc: Global,
     rounds: &mut Rounds,
     env: ParamEnv,
     predicate: TraitPredicate,
-    count: u16,
+    effort: Effort,
 ) -> Result<(), Stop>
 {
     if !rounds.stands_here(alloc, env, predicate) {
@@ -54,18 +55,18 @@ fn run_where_it_stands(
     if !rounds.may_be_run(alloc, env, predicate)? {
         return Ok(());
     }
-    let _verdict = rounds.run(alloc, env, predicate, count)?;
+    let _verdict = rounds.run_by(alloc, env, predicate, effort)?;
     Ok(())
 }
 
-/// Whether the goal is refused in so many rounds, where it is asked for in coherence and may decide, and each of its instances is, as far as
+/// Whether the goal is refused by that effort, where it is asked for in coherence and may decide, and each of its instances is, as far as
 /// auto traits go.
 fn is_refused_in_coherence(
     alloc: Global,
     rounds: &mut Rounds,
     env: ParamEnv,
     predicate: TraitPredicate,
-    count: u16,
+    effort: Effort,
 ) -> Result<bool, Stop>
 {
     if !may_decide(alloc, rounds, env, predicate)? {
@@ -74,7 +75,7 @@ fn is_refused_in_coherence(
     if !rounds.may_be_run(alloc, env, predicate)? {
         return Ok(false);
     }
-    rounds.run(alloc, env, predicate, count)?;
+    rounds.run_by(alloc, env, predicate, effort)?;
     if !is_refused(alloc, rounds, env, predicate)? {
         return Ok(false);
     }
@@ -87,17 +88,17 @@ pub(crate) fn is_predicate_refused(
     rounds: &mut Rounds,
     env: ParamEnv,
     predicate: TraitPredicate,
-    count: u16,
+    effort: Effort,
 ) -> Result<bool, Stop>
 {
     if !is_in_coherence(rounds) {
-        run_where_it_stands(alloc, rounds, env, predicate, count)?;
+        run_where_it_stands(alloc, rounds, env, predicate, effort)?;
         return Ok(false);
     }
-    is_refused_in_coherence(alloc, rounds, env, predicate, count)
+    is_refused_in_coherence(alloc, rounds, env, predicate, effort)
 }
 
-/// Whether a where clause is refused in so many rounds, with what stands for the parameters put in and all values; one that says nothing of
+/// Whether a where clause is refused by that effort, with what stands for the parameters put in and all values; one that says nothing of
 /// a trait isn't.
 fn is_clause_refused(
     alloc: Global,
@@ -105,7 +106,7 @@ fn is_clause_refused(
     env: ParamEnv,
     clause: Clause,
     locals: Args,
-    count: u16,
+    effort: Effort,
 ) -> Result<bool, Stop>
 {
     let clause = substitute(alloc, rounds, clause, locals)?;
@@ -113,7 +114,7 @@ fn is_clause_refused(
     let Some(predicate) = predicate_in(rounds.cx(), clause) else {
         return Ok(false);
     };
-    is_predicate_refused(alloc, rounds, env, predicate, count)
+    is_predicate_refused(alloc, rounds, env, predicate, effort)
 }
 
 /// Whether the clause is refused, asked in a probe, so that what is known stays.
@@ -123,27 +124,27 @@ fn probe_clause(
     env: ParamEnv,
     clause: Clause,
     locals: Args,
-    count: u16,
+    effort: Effort,
 ) -> Result<bool, Stop>
 {
     let probe = rounds.begin_probe(ProbeKind::Kept)?;
-    let answer = is_clause_refused(alloc, rounds, env, clause, locals, count);
+    let answer = is_clause_refused(alloc, rounds, env, clause, locals, effort);
     rounds.end_probe(probe);
     answer
 }
 
-/// The number of the first of the where clauses that is refused in so many rounds, with what stands for the parameters put in.
+/// The number of the first of the where clauses that is refused by that effort, with what stands for the parameters put in.
 pub(crate) fn first_refused(
     alloc: Global,
     rounds: &mut Rounds,
     env: ParamEnv,
     clauses: &[Clause],
     locals: Args,
-    count: u16,
+    effort: Effort,
 ) -> Result<Option<usize>, Stop>
 {
     for number in 0..clauses.len() {
-        if probe_clause(alloc, rounds, env, clauses[number], locals, count)? {
+        if probe_clause(alloc, rounds, env, clauses[number], locals, effort)? {
             return Ok(Some(number));
         }
     }

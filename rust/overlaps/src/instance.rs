@@ -23,6 +23,8 @@ pub struct CommonInstance {
     /// of both is answered by a Yes that gives no variable a value, save those of what outlives what, which are assumed. It isn't certain
     /// where a region leaks in what such a Yes rests on, where a clause is of a projection, or its trait may lead to an auto trait with an impl for some types of a head alone.
     pub is_certain: bool,
+    /// Whether the headers' equation leaks a region that a binder of them binds. It isn't certain then.
+    pub leaks: bool,
 }
 
 /// The trait, the number of the arguments' list, and whether it is certain.
@@ -50,5 +52,6 @@ pub(crate) fn common_instance(
     Ok(CommonInstance {
         trait_ref,
         is_certain,
+        leaks: false,
     })
 }

@@ -13,6 +13,7 @@ use crate::order::in_order;
 use crate::plain::make_equal;
 use candidate_eval::eval::context::{EvalCtxt, ProbeKind};
 use candidate_rounds::rounds::Rounds;
+use candidate_rounds::rounds::effort::Effort;
 use ir_context::decl::Cx;
 use ir_context::decl::make::{Build, Make};
 use ir_trees::decl::contents::ImplId;
@@ -73,24 +74,24 @@ pub(crate) fn are_undecided(rounds: &Rounds, pair: &Pair) -> bool
     have_aliases(rounds.cx(), pair)
 }
 
-/// The first where clause of the two impls that is refused in so many rounds, those of the first impl before those of the second.
+/// The first where clause of the two impls that is refused by that effort, those of the first impl before those of the second.
 pub(crate) fn refused_clause(
     alloc: Global,
     rounds: &mut Rounds,
     env: ParamEnv,
     pair: &Pair,
-    count: u16,
+    effort: Effort,
 ) -> Result<Option<WhereClause>, Stop>
 {
     let first = &pair.first;
     let clauses = first.wheres.as_slice();
-    if let Some(number) = first_refused(alloc, rounds, env, clauses, first.locals, count)? {
+    if let Some(number) = first_refused(alloc, rounds, env, clauses, first.locals, effort)? {
         let of = first.of;
         return Ok(Some(WhereClause { of, number }));
     }
     let second = &pair.second;
     let clauses = second.wheres.as_slice();
-    if let Some(number) = first_refused(alloc, rounds, env, clauses, second.locals, count)? {
+    if let Some(number) = first_refused(alloc, rounds, env, clauses, second.locals, effort)? {
         let of = second.of;
         return Ok(Some(WhereClause { of, number }));
     }
@@ -112,10 +113,10 @@ fn overlap_where_equal(
     rounds: &mut Rounds,
     env: ParamEnv,
     pair: &Pair,
-    count: u16,
+    effort: Effort,
 ) -> Result<Overlap, Stop>
 {
-    if let Some(clause) = refused_clause(alloc, rounds, env, pair, count)? {
+    if let Some(clause) = refused_clause(alloc, rounds, env, pair, effort)? {
         return Ok(Overlap::DisjointClause(clause));
     }
     let is_certain = are_certain(alloc, rounds, env, pair)?;
@@ -123,16 +124,14 @@ fn overlap_where_equal(
     Ok(Overlap::May(instance))
 }
 
-/// The answer, which isn't certain where the headers' equation leaks a region.
+/// The answer, told whether the headers' equation leaks a region: then it isn't certain.
 fn unless_leaking(answer: Overlap, leaks: bool) -> Overlap
 {
-    if !leaks {
-        return answer;
-    }
     match answer {
-        Overlap::May(CommonInstance { trait_ref, .. }) => Overlap::May(CommonInstance {
-            trait_ref,
-            is_certain: false,
+        Overlap::May(instance) => Overlap::May(CommonInstance {
+            trait_ref: instance.trait_ref,
+            is_certain: instance.is_certain && !leaks,
+            leaks,
         }),
         answer => answer,
     }
@@ -144,11 +143,11 @@ fn overlap_unless_leaking(
     rounds: &mut Rounds,
     env: ParamEnv,
     pair: &Pair,
-    count: u16,
+    effort: Effort,
     leaks: bool,
 ) -> Result<Overlap, Stop>
 {
-    let answer = overlap_where_equal(alloc, rounds, env, pair, count)?;
+    let answer = overlap_where_equal(alloc, rounds, env, pair, effort)?;
     Ok(unless_leaking(answer, leaks))
 }
 
@@ -157,7 +156,7 @@ fn overlap_of_pair(
     alloc: Global,
     rounds: &mut Rounds,
     pair: &Pair,
-    count: u16,
+    effort: Effort,
 ) -> Result<Overlap, Stop>
 {
     if are_undecided(rounds, pair) {
@@ -171,7 +170,7 @@ fn overlap_of_pair(
     }
     let leaks = rounds.leaks_above(alloc, above)?;
     let aside = rounds.begin_probe(ProbeKind::SetAside)?;
-    let answer = overlap_unless_leaking(alloc, rounds, env, pair, count, leaks);
+    let answer = overlap_unless_leaking(alloc, rounds, env, pair, effort, leaks);
     rounds.end_probe(aside);
     answer
 }
@@ -182,7 +181,7 @@ fn overlap_here(
     rounds: &mut Rounds,
     first: ImplId,
     second: ImplId,
-    count: u16,
+    effort: Effort,
 ) -> Result<Overlap, Stop>
 {
     rounds.cx().recall_well_formed_table();
@@ -190,7 +189,7 @@ fn overlap_here(
     let Some(pair) = open_both(alloc, rounds, first, second)? else {
         return Ok(Overlap::NoCommonTrait);
     };
-    overlap_of_pair(alloc, rounds, &pair, count)
+    overlap_of_pair(alloc, rounds, &pair, effort)
 }
 
 /// Whether the two impls overlap where nothing is pending, in a probe that is set aside, so that all stays but the table.
@@ -199,14 +198,14 @@ fn overlap_aside(
     rounds: &mut Rounds,
     first: ImplId,
     second: ImplId,
-    count: u16,
+    effort: Effort,
 ) -> Result<Overlap, Stop>
 {
     if !have_common_trait(rounds.cx(), first, second) {
         return Ok(Overlap::NoCommonTrait);
     }
     let probe = rounds.begin_probe(ProbeKind::SetAside)?;
-    let answer = overlap_here(alloc, rounds, first, second, count);
+    let answer = overlap_here(alloc, rounds, first, second, effort);
     rounds.end_probe(probe);
     answer
 }
@@ -217,20 +216,20 @@ fn overlap_of_ordered(
     rounds: &mut Rounds,
     first: ImplId,
     second: ImplId,
-    count: u16,
+    effort: Effort,
 ) -> Result<Overlap, Stop>
 {
     if let Some(reason) = allowance_of_ordered(rounds.cx(), first, second) {
         return Ok(Overlap::Allowed(reason));
     }
-    overlap_aside(alloc, rounds, first, second, count)
+    overlap_aside(alloc, rounds, first, second, effort)
 }
 
 /// Whether two impls of a trait may overlap: a reference may be an instance of both.
 ///
 /// It is the same whichever of the two is given first: all is done with them in the order of their numbers. With fresh variables for the
 /// parameters of both, their headers are made equal; and then each where clause that says something of a trait, of the impl of the lower number
-/// and then of the other, is run for so many rounds and computed, with all values put in. `NoCommonTrait` comes where the numbers aren't those of
+/// and then of the other, is run by that effort and computed, with all values put in. `NoCommonTrait` comes where the numbers aren't those of
 /// two impls of one trait, `Allowed` where `allowance_of` has a reason, `DisjointHeaders` where the headers can't be made equal, and
 /// `DisjointClause` of the first clause that is refused. Else it is `May`, with what is an instance of both headers, unless an alias stands in
 /// one, and whether it is certain that both impls hold of it.
@@ -248,7 +247,7 @@ fn overlap_of_ordered(
 ///
 /// Where it is `May`, each where clause of both was asked at what the headers' equation leaves, one after the other, and stays for a reason that
 /// the contract has: it says nothing of a trait; in coherence nothing is decided by its goal; in another mode the goal was run, if it stands;
-/// or the goal was run for so many rounds, and then had an answer, or was refused where a variable stands in it and it may lead to an auto
+/// or the goal was run by that effort, and then had an answer, or was refused where a variable stands in it and it may lead to an auto
 /// trait with an impl that bars no head, or to unsizing. No clause is asked where the headers' equation decides nothing. Where it is
 /// `DisjointClause`, each clause before that one was asked, and stays in the same way. Where it is uncertain, an alias stands in a header, a
 /// region leaks, or the contract names a clause and why the table doesn't make it certain.
@@ -263,11 +262,11 @@ pub fn impls_overlap(
     rounds: &mut Rounds,
     first: ImplId,
     second: ImplId,
-    count: u16,
+    effort: Effort,
 ) -> Result<Overlap, Stop>
 {
     let pair = in_order(first, second);
-    overlap_of_ordered(alloc, rounds, pair.0, pair.1, count)
+    overlap_of_ordered(alloc, rounds, pair.0, pair.1, effort)
 }
 
 /// Whether the two impls overlap, whatever the two declare: that one is a reservation, or said to specialise the other, isn't looked at, and `Allowed` is no
@@ -277,9 +276,9 @@ pub fn impls_overlap_anyway(
     rounds: &mut Rounds,
     first: ImplId,
     second: ImplId,
-    count: u16,
+    effort: Effort,
 ) -> Result<Overlap, Stop>
 {
     let pair = in_order(first, second);
-    overlap_aside(alloc, rounds, pair.0, pair.1, count)
+    overlap_aside(alloc, rounds, pair.0, pair.1, effort)
 }

@@ -17,6 +17,7 @@ use candidate_eval::eval::context::{EvalCtxt, ProbeKind};
 use candidate_eval::eval::knowing::is_knowable;
 use candidate_eval::eval::response::{CanonicalResponse, has_only_region_constraints};
 use candidate_rounds::rounds::Rounds;
+use candidate_rounds::rounds::effort::Effort;
 use candidate_rounds::rounds::goals::Verdict;
 use ir_context::decl::Cx;
 use ir_context::decl::make::{Build, Make};
@@ -256,16 +257,16 @@ fn add_open_clauses(
     Ok(())
 }
 
-/// The open where clauses of two open impls whose headers are equal, once all of them were run in so many rounds, as far as none is refused.
+/// The open where clauses of two open impls whose headers are equal, once all of them were run by that effort, as far as none is refused.
 fn open_where_equal(
     alloc: Global,
     rounds: &mut Rounds,
     env: ParamEnv,
     pair: &Pair,
-    count: u16,
+    effort: Effort,
 ) -> Result<Vec<OpenClause>, Stop>
 {
-    refused_clause(alloc, rounds, env, pair, count)?;
+    refused_clause(alloc, rounds, env, pair, effort)?;
     let mut list = Vec::new(alloc);
     add_open_clauses(alloc, rounds, env, &pair.first, &mut list)?;
     add_open_clauses(alloc, rounds, env, &pair.second, &mut list)?;
@@ -277,7 +278,7 @@ fn open_of_pair(
     alloc: Global,
     rounds: &mut Rounds,
     pair: &Pair,
-    count: u16,
+    effort: Effort,
 ) -> Result<Vec<OpenClause>, Stop>
 {
     if are_undecided(rounds, pair) {
@@ -288,7 +289,7 @@ fn open_of_pair(
         return Ok(Vec::new(alloc));
     }
     let aside = rounds.begin_probe(ProbeKind::SetAside)?;
-    let answer = open_where_equal(alloc, rounds, env, pair, count);
+    let answer = open_where_equal(alloc, rounds, env, pair, effort);
     rounds.end_probe(aside);
     answer
 }
@@ -299,13 +300,13 @@ fn open_here(
     rounds: &mut Rounds,
     first: ImplId,
     second: ImplId,
-    count: u16,
+    effort: Effort,
 ) -> Result<Vec<OpenClause>, Stop>
 {
     let Some(pair) = open_both(alloc, rounds, first, second)? else {
         return Ok(Vec::new(alloc));
     };
-    open_of_pair(alloc, rounds, &pair, count)
+    open_of_pair(alloc, rounds, &pair, effort)
 }
 
 /// The open where clauses of two impls, found in a probe that is set aside, so that all stays but the table. Nothing is pending.
@@ -314,14 +315,14 @@ fn open_aside(
     rounds: &mut Rounds,
     first: ImplId,
     second: ImplId,
-    count: u16,
+    effort: Effort,
 ) -> Result<Vec<OpenClause>, Stop>
 {
     if !have_common_trait(rounds.cx(), first, second) {
         return Ok(Vec::new(alloc));
     }
     let probe = rounds.begin_probe(ProbeKind::SetAside)?;
-    let answer = open_here(alloc, rounds, first, second, count);
+    let answer = open_here(alloc, rounds, first, second, effort);
     rounds.end_probe(probe);
     answer
 }
@@ -329,7 +330,7 @@ fn open_aside(
 /// Which where clauses of two impls of a trait are open: where their headers are equal it isn't known that they hold. These are what
 /// `impls_overlap` is uncertain for where it answers `May`, but for an alias in a header.
 ///
-/// All is done as there, in the order of the impls' numbers: the headers are made equal, and the where clauses are run for so many rounds, up to
+/// All is done as there, in the order of the impls' numbers: the headers are made equal, and the where clauses are run by that effort, up to
 /// the first that is refused. Then each where clause is looked up in the table. It is listed unless the table makes it certain, with what it
 /// says there and with a cause; those of the impl with the lower number come first. The list is complete: each other one holds by the table,
 /// or says what outlives what. None is listed of impls of different traits, nor where the headers can't be made equal, or their equation decides
@@ -345,9 +346,9 @@ pub fn open_clauses(
     rounds: &mut Rounds,
     first: ImplId,
     second: ImplId,
-    count: u16,
+    effort: Effort,
 ) -> Result<Vec<OpenClause>, Stop>
 {
     let pair = in_order(first, second);
-    open_aside(alloc, rounds, pair.0, pair.1, count)
+    open_aside(alloc, rounds, pair.0, pair.1, effort)
 }

@@ -18,6 +18,7 @@ use candidate_eval::eval::context::{EvalCtxt, ProbeKind};
 use candidate_eval::eval::refusal::NoSolutionOrStop;
 use candidate_eval::eval::response::CanonicalResponse;
 use candidate_rounds::rounds::Rounds;
+use candidate_rounds::rounds::effort::Effort;
 use candidate_rounds::rounds::goals::Verdict;
 use candidate_rounds::rounds::normalizing::trait_predicate;
 use ir_context::decl::Cx;
@@ -162,16 +163,16 @@ fn may_be_sure(verdict: &Option<Verdict>) -> bool {
     }
 }
 
-/// Whether the goal, which may be run, holds after that many rounds at most, by a Yes that rests on no region that leaks. It stops as `Rounds::run` does.
+/// Whether the goal, which may be run, holds by that effort, by a Yes that rests on no region that leaks. It stops as `Rounds::run` does.
 fn is_proved(
     alloc: Global,
     rounds: &mut Rounds,
     env: ParamEnv,
     predicate: TraitPredicate,
-    count: u16,
+    effort: Effort,
 ) -> Result<bool, Stop>
 {
-    match rounds.run(alloc, env, predicate, count)? {
+    match rounds.run_by(alloc, env, predicate, effort)? {
         Verdict::Yes(_, _) => {
             let leaks = rounds.entry_leaks(alloc, env, predicate)?;
             Ok(!leaks)
@@ -181,13 +182,13 @@ fn is_proved(
 }
 
 /// What the projection is, where its arguments are those that it takes, and its trait's goal stands at what is known, and says nothing of a type of which
-/// an instance is otherwise: it is normalised in that many rounds, if that goal holds by then. So no further round takes back what is answered.
+/// an instance is otherwise: it is normalised by that effort, if that goal holds by then. So no further round takes back what is answered.
 fn normal(
     alloc: Global,
     rounds: &mut Rounds,
     env: ParamEnv,
     alias: AliasTy,
-    count: u16,
+    effort: Effort,
 ) -> Result<Option<CanonicalResponse>, Stop>
 {
     if !rounds.cx().args_fit(TyKind::Alias(alias)) {
@@ -203,13 +204,13 @@ fn normal(
     if !rounds.may_be_run(alloc, env, predicate)? {
         return Ok(None);
     }
-    if !is_proved(alloc, rounds, env, predicate, count)? {
+    if !is_proved(alloc, rounds, env, predicate, effort)? {
         return Ok(None);
     }
     if !refuses_instances(alloc, rounds.cx(), predicate.trait_ref)? {
         return Ok(None);
     }
-    rounds.normalize(alloc, env, alias, count)
+    rounds.normalize(alloc, env, alias, effort)
 }
 
 /// The type that the projection is, where a sure answer says it: what that says of variables is known then.
@@ -218,10 +219,10 @@ pub(crate) fn projected(
     rounds: &mut Rounds,
     env: ParamEnv,
     alias: AliasTy,
-    count: u16,
+    effort: Effort,
 ) -> Result<ProjectionType, Stop>
 {
-    match normal(alloc, rounds, env, alias, count)? {
+    match normal(alloc, rounds, env, alias, effort)? {
         Some(response) => give_sure(alloc, rounds, env, alias, &response),
         None => Ok(ProjectionType::Open),
     }
@@ -233,12 +234,12 @@ fn put_type(
     rounds: &mut Rounds,
     goal: Obligation,
     projection: (Ty, AliasTy),
-    count: u16,
+    effort: Effort,
     left: &mut Vec<Obligation>,
 ) -> Result<bool, Stop>
 {
     let param_env = goal.1.param_env;
-    match projected(alloc, rounds, param_env, projection.1, count)? {
+    match projected(alloc, rounds, param_env, projection.1, effort)? {
         ProjectionType::Open => keep(left, goal),
         ProjectionType::Impossible => Ok(true),
         ProjectionType::Type(ty) => {
@@ -263,13 +264,13 @@ fn make_term_equal(
     rounds: &mut Rounds,
     goal: Obligation,
     said: (AliasTy, Ty),
-    count: u16,
+    effort: Effort,
     left: &mut Vec<Obligation>,
 ) -> Result<bool, Stop>
 {
     let env = goal.1.param_env;
     let term = GenericArg::Ty(said.1);
-    match projected(alloc, rounds, env, said.0, count)? {
+    match projected(alloc, rounds, env, said.0, effort)? {
         ProjectionType::Open => keep(left, goal),
         ProjectionType::Impossible => Ok(true),
         ProjectionType::Type(ty) => {
@@ -305,17 +306,17 @@ fn settle(
     }
 }
 
-/// Whether the goal is refused in so many rounds, for a reason that decides, in a probe, so that what is known stays.
+/// Whether the goal is refused by that effort, for a reason that decides, in a probe, so that what is known stays.
 fn is_refused_here(
     alloc: Global,
     rounds: &mut Rounds,
     env: ParamEnv,
     predicate: TraitPredicate,
-    count: u16,
+    effort: Effort,
 ) -> Result<bool, Stop>
 {
     let probe = rounds.begin_probe(ProbeKind::Kept)?;
-    let answer = is_predicate_refused(alloc, rounds, env, predicate, count);
+    let answer = is_predicate_refused(alloc, rounds, env, predicate, effort);
     rounds.end_probe(probe);
     answer
 }
@@ -325,13 +326,13 @@ fn is_yes(verdict: &Option<Verdict>) -> bool {
     matches!(verdict, Some(Verdict::Yes(_, _)))
 }
 
-/// A goal of a trait is run for so many rounds, if the table has no answer for it that may stay: a refusal refuses it, and a Yes gives its values.
+/// A goal of a trait is run by that effort, if the table has no answer for it that may stay: a refusal refuses it, and a Yes gives its values.
 fn try_trait(
     alloc: Global,
     rounds: &mut Rounds,
     goal: Obligation,
     predicate: TraitPredicate,
-    count: u16,
+    effort: Effort,
     left: &mut Vec<Obligation>,
 ) -> Result<bool, Stop>
 {
@@ -340,7 +341,7 @@ fn try_trait(
     if !may_be_sure(&verdict) {
         return keep(left, goal);
     }
-    if !is_yes(&verdict) && is_refused_here(alloc, rounds, env, predicate, count)? {
+    if !is_yes(&verdict) && is_refused_here(alloc, rounds, env, predicate, effort)? {
         return Ok(true);
     }
     if !is_yes(&verdict_here(alloc, rounds, env, predicate)?) {
@@ -354,19 +355,19 @@ fn try_with_values(
     alloc: Global,
     rounds: &mut Rounds,
     goal: Obligation,
-    count: u16,
+    effort: Effort,
     left: &mut Vec<Obligation>,
 ) -> Result<bool, Stop>
 {
     let clause = goal.1.predicate;
     if let Some(projection) = projection_in(rounds.cx(), clause) {
-        return put_type(alloc, rounds, goal, projection, count, left);
+        return put_type(alloc, rounds, goal, projection, effort, left);
     }
     if let Some(said) = said_of_projection(rounds.cx(), clause) {
-        return make_term_equal(alloc, rounds, goal, said, count, left);
+        return make_term_equal(alloc, rounds, goal, said, effort, left);
     }
     match predicate_in(rounds.cx(), clause) {
-        Some(predicate) => try_trait(alloc, rounds, goal, predicate, count, left),
+        Some(predicate) => try_trait(alloc, rounds, goal, predicate, effort, left),
         None => settle(alloc, rounds, goal, left),
     }
 }
@@ -377,7 +378,7 @@ fn try_goal(
     rounds: &mut Rounds,
     env: ParamEnv,
     goal: Obligation,
-    count: u16,
+    effort: Effort,
     left: &mut Vec<Obligation>,
 ) -> Result<bool, Stop>
 {
@@ -396,7 +397,7 @@ fn try_goal(
             predicate,
         },
     );
-    try_with_values(alloc, rounds, goal, count, left)
+    try_with_values(alloc, rounds, goal, effort, left)
 }
 
 /// All goals are taken up, one after the other: what is left in their place, or nothing, where they can't hold together.
@@ -405,12 +406,12 @@ fn try_all(
     rounds: &mut Rounds,
     env: ParamEnv,
     goals: &[Obligation],
-    count: u16,
+    effort: Effort,
 ) -> Result<Option<Vec<Obligation>>, Stop>
 {
     let mut left = Vec::new(alloc);
     for i in 0..goals.len() {
-        if try_goal(alloc, rounds, env, goals[i], count, &mut left)? {
+        if try_goal(alloc, rounds, env, goals[i], effort, &mut left)? {
             return Ok(None);
         }
     }
@@ -436,12 +437,12 @@ fn cannot_hold(
     rounds: &mut Rounds,
     env: ParamEnv,
     goals: Vec<Obligation>,
-    count: u16,
+    effort: Effort,
 ) -> Result<bool, Stop>
 {
     let mut goals = goals;
     for _pass in 0..MAX_PASSES {
-        match try_all(alloc, rounds, env, goals.as_slice(), count)? {
+        match try_all(alloc, rounds, env, goals.as_slice(), effort)? {
             Some(left) => {
                 if are_same(left.as_slice(), goals.as_slice()) {
                     return Ok(false);
@@ -475,7 +476,12 @@ fn add_wheres(
 }
 
 /// Whether the where clauses of two open impls can't hold together where their headers are made equal.
-fn apart_of_pair(alloc: Global, rounds: &mut Rounds, pair: &Pair, count: u16) -> Result<bool, Stop>
+fn apart_of_pair(
+    alloc: Global,
+    rounds: &mut Rounds,
+    pair: &Pair,
+    effort: Effort,
+) -> Result<bool, Stop>
 {
     let env = rounds.mk_param_env(&[])?;
     if !make_equal(rounds, env, pair.first.header, pair.second.header)? {
@@ -485,7 +491,7 @@ fn apart_of_pair(alloc: Global, rounds: &mut Rounds, pair: &Pair, count: u16) ->
     leave_pending(alloc, rounds, &mut goals)?;
     add_wheres(alloc, rounds, env, &pair.first, &mut goals)?;
     add_wheres(alloc, rounds, env, &pair.second, &mut goals)?;
-    cannot_hold(alloc, rounds, env, goals, count)
+    cannot_hold(alloc, rounds, env, goals, effort)
 }
 
 /// Whether the where clauses of two impls can't hold together, where what is found to be known stays known.
@@ -494,13 +500,13 @@ fn apart_here(
     rounds: &mut Rounds,
     first: ImplId,
     second: ImplId,
-    count: u16,
+    effort: Effort,
 ) -> Result<bool, Stop>
 {
     let Some(pair) = open_both(alloc, rounds, first, second)? else {
         return Ok(false);
     };
-    apart_of_pair(alloc, rounds, &pair, count)
+    apart_of_pair(alloc, rounds, &pair, effort)
 }
 
 /// Whether the where clauses of two impls can't hold together, in a probe in which nothing is pending, so that all stays but the table.
@@ -509,11 +515,11 @@ fn apart_aside(
     rounds: &mut Rounds,
     first: ImplId,
     second: ImplId,
-    count: u16,
+    effort: Effort,
 ) -> Result<bool, Stop>
 {
     let probe = rounds.begin_probe(ProbeKind::SetAside)?;
-    let answer = apart_here(alloc, rounds, first, second, count);
+    let answer = apart_here(alloc, rounds, first, second, effort);
     rounds.end_probe(probe);
     answer
 }
@@ -522,7 +528,7 @@ fn apart_aside(
 ///
 /// With fresh variables for the parameters of both, their headers are made equal. What that leaves pending and all where clauses of both are
 /// goals then, which are taken up in order, again and again while that changes one of them, but eight times at most. A projection is normalised
-/// in so many rounds, and where a sure answer says what it is, that stands in its place. A goal of a trait is run for so many rounds, unless the
+/// by that effort, and where a sure answer says what it is, that stands in its place. A goal of a trait is run by that effort, unless the
 /// table has an answer for it. A refusal that decides refuses all, and so does an equation that can't be; what a Yes gives is known to the
 /// others. A goal of a trait that may lead to an auto trait with an impl for some types of a head alone gives nothing.
 ///
@@ -534,7 +540,7 @@ pub fn kept_apart_by_clauses(
     rounds: &mut Rounds,
     first: ImplId,
     second: ImplId,
-    count: u16,
+    effort: Effort,
 ) -> Result<bool, Stop>
 {
     if !rounds.opens_aliases() {
@@ -544,5 +550,5 @@ pub fn kept_apart_by_clauses(
         return Ok(false);
     }
     let pair = in_order(first, second);
-    apart_aside(alloc, rounds, pair.0, pair.1, count)
+    apart_aside(alloc, rounds, pair.0, pair.1, effort)
 }

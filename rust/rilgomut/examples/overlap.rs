@@ -2,8 +2,8 @@
 //! `Known` is the local crate's and holds of `u8` alone, so the two are disjoint. Without the bound they overlap.
 
 use rilgomut::{
-    Build, CommonInstance, Cx, DeclsBuilder, Global, ImplId, ImplPolarity, Make, Making, Overlap, Rounds, Shown, TraitFlags, TyKind, TypingMode, UintTy,
-    VarKind, impls_overlap,
+    Build, CommonInstance, Cx, DeclsBuilder, Effort, Global, ImplId, ImplPolarity, Make, Making, Overlap, Rounds, Shown, TraitFlags, TyKind, TypingMode,
+    UintTy, VarKind, impls_overlap,
 };
 use std::error::Error;
 
@@ -44,7 +44,7 @@ fn main() -> Result<(), Box<dyn Error>> {
     for bounded in [true, false] {
         let (cx, first, second) = declare(bounded)?;
         let mut rounds = Rounds::with_open_aliases(Global, cx, TypingMode::Coherence, vec![].into(), vec![].into());
-        let overlap = impls_overlap(Global, &mut rounds, first, second, 65_535)?;
+        let overlap = impls_overlap(Global, &mut rounds, first, second, Effort::AsNeeded)?;
         let shown = Shown::new(rounds.cx(), &["Known", "Show"]);
         println!("`{}` and `{}`: {}", shown.header(first), shown.header(second), told(overlap, shown));
     }

@@ -7,7 +7,7 @@
 //! |---|---|
 //! | Do two impls overlap, as far as any crate may tell? | [`impls_overlap`], [`kept_apart_by_clauses`], [`kept_apart_by_negation`] |
 //! | May this crate write a header? May others write one that isn't known here? | [`orphan_check_trait_ref`], [`trait_ref_is_knowable`] |
-//! | Does a goal hold, by which steps, and what is an associated type? | [`Rounds::run`], [`Rounds::derivation`], [`Rounds::normalize`] |
+//! | Does a goal hold, by which steps, and what is an associated type? | [`Rounds::run_settled`], [`Rounds::derivation`], [`Rounds::normalize`] |
 //!
 //! Its sources are made of ones in Rattle, a Rust with contracts, in which each function is proved: a goal that holds is derived, and a refusal in
 //! coherence stays true when other crates appear. What is proved is the text in Rattle. This package is the same text without its contracts, compiled by
@@ -48,7 +48,7 @@
 //! let (normal, opaque) = (vec![].into(), vec![].into());
 //! let mode = TypingMode::Coherence;
 //! let mut rounds = Rounds::with_open_aliases(Global, cx, mode, normal, opaque);
-//! let overlap = impls_overlap(Global, &mut rounds, first, second, 65_535)?;
+//! let overlap = impls_overlap(Global, &mut rounds, first, second, Effort::AsNeeded)?;
 //! let clause = WhereClause { of: second, number: 0 };
 //! assert_eq!(overlap, Overlap::DisjointClause(clause));
 //! let shown = Shown::new(rounds.cx(), &["Known", "Show"]);
@@ -63,8 +63,8 @@
 //!   number. [`Shown`] spells them as Rust does.
 //! - **Declarations come first**, by a [`DeclsBuilder`]. Its `finish` tests them. Its error says what is wrong, and `place` of it where, if one
 //!   declaration has the fault.
-//! - **A number of rounds** says how far is looked. A goal that waits for another one is computed again in the next round. 65,535 is the most, and a run ends
-//!   by itself when nothing changes any more.
+//! - **An [`Effort`]** says how far is looked. `Effort::AsNeeded` is the usual one: a goal that waits for another one is computed again once that one is
+//!   final, and a run ends by itself when nothing changes any more. `Effort::Rounds` is a number of rounds, each of which computes all goals.
 //! - **Giving up is no answer.** [`Stop`] says that a call gave up: memory, a limit, a type that is too large. `Maybe` says that it isn't known, and so does
 //!   [`Overlap::May`], unless its instance is certain.
 //! - **Numbers of one context aren't numbers of another.** A debug build panics where a call is given the number of a type, a list or a clause that there
@@ -181,6 +181,7 @@ pub use candidate_rounds::rounds::derivation::{DerivationStep, DerivationTree};
 /// Take `Coherence` for overlaps: what other crates may add counts, so that a refusal stays true. Take `Analysis` for what holds by what is declared, as in the
 /// body of a function, and `PostAnalysis` where opaque types are what they hide, too. In the modes between them opaque types are hidden in other ways.
 pub use candidate_eval::eval::mode::TypingMode;
+pub use candidate_rounds::rounds::effort::Effort;
 pub use candidate_rounds::rounds::goals::{GoalKey, Verdict};
 
 /// An evaluator of goals over a context.
@@ -210,7 +211,7 @@ pub use candidate_rounds::rounds::goals::{GoalKey, Verdict};
 ///
 /// // The second round computes `u8: Clone`, and the third one reads it.
 /// assert!(matches!(rounds.run(Global, env, goal, 2)?, Verdict::Maybe(..)));
-/// assert!(matches!(rounds.run(Global, env, goal, 65_535)?, Verdict::Yes(..)));
+/// assert!(matches!(rounds.run_settled(Global, env, goal)?, Verdict::Yes(..)));
 ///
 /// let tree = rounds.derivation(Global, env, goal)?.expect("a yes has a derivation");
 /// let shown = Shown::new(rounds.cx(), &names);
@@ -235,7 +236,7 @@ pub use candidate_rounds::rounds::goals::{GoalKey, Verdict};
 /// let bytes = rounds.mk_ty(TyKind::Adt(vec, args))?;
 /// let args = rounds.mk_args(&[GenericArg::Ty(bytes)])?;
 /// let env = rounds.mk_param_env(&[])?;
-/// let response = rounds.normalize(Global, env, AliasTy::projection(item, args), 65_535)?.expect("it has a type");
+/// let response = rounds.normalize(Global, env, AliasTy::projection(item, args), Effort::AsNeeded)?.expect("it has a type");
 /// // Of all variables of the goal, the last one is the type.
 /// assert_eq!(rounds.cx().args(response.values).last(), Some(&GenericArg::Ty(byte)));
 /// # Ok(())
@@ -316,7 +317,7 @@ pub use overlaps::overlap::{Overlap, WhereClause};
 /// # fn main() -> Result<(), Box<dyn std::error::Error>> {
 /// let rilgomut::worlds::Clones { cx, of_byte, of_vec, .. } = rilgomut::worlds::clones()?;
 /// let mut rounds = Rounds::with_open_aliases(Global, cx, TypingMode::Coherence, vec![].into(), vec![].into());
-/// assert_eq!(impls_overlap(Global, &mut rounds, of_byte, of_vec, 65_535)?, Overlap::DisjointHeaders);
+/// assert_eq!(impls_overlap(Global, &mut rounds, of_byte, of_vec, Effort::AsNeeded)?, Overlap::DisjointHeaders);
 /// # Ok(())
 /// # }
 /// ```
@@ -334,8 +335,8 @@ pub use overlaps::overlap::impls_overlap;
 /// # fn main() -> Result<(), Box<dyn std::error::Error>> {
 /// let rilgomut::worlds::Items { cx, of_bytes, of_vec, .. } = rilgomut::worlds::items()?;
 /// let mut rounds = Rounds::with_open_aliases(Global, cx, TypingMode::Coherence, vec![].into(), vec![].into());
-/// assert!(matches!(impls_overlap(Global, &mut rounds, of_bytes, of_vec, 65_535)?, Overlap::May(_)));
-/// assert!(kept_apart_by_clauses(Global, &mut rounds, of_bytes, of_vec, 65_535)?);
+/// assert!(matches!(impls_overlap(Global, &mut rounds, of_bytes, of_vec, Effort::AsNeeded)?, Overlap::May(_)));
+/// assert!(kept_apart_by_clauses(Global, &mut rounds, of_bytes, of_vec, Effort::AsNeeded)?);
 /// # Ok(())
 /// # }
 /// ```
@@ -352,7 +353,7 @@ pub use overlaps::together::kept_apart_by_clauses;
 /// # fn main() -> Result<(), Box<dyn std::error::Error>> {
 /// let rilgomut::worlds::Clones { cx, of_truth, of_clones, .. } = rilgomut::worlds::clones()?;
 /// let mut rounds = Rounds::new(Global, cx, TypingMode::PostAnalysis, vec![].into(), vec![].into());
-/// let clause = kept_apart_by_negation(Global, &mut rounds, of_truth, of_clones, 65_535)?;
+/// let clause = kept_apart_by_negation(Global, &mut rounds, of_truth, of_clones, Effort::AsNeeded)?;
 /// assert!(clause.is_some_and(|clause| clause.of == of_clones));
 /// # Ok(())
 /// # }

@@ -8,6 +8,7 @@ use candidate_ir::decl::context::Cx;
 use candidate_ir::decl::definition::TraitFlags;
 use candidate_ir::decl::make::Build;
 use candidate_ir::ir::kinds::*;
+use candidate_rounds::rounds::effort::Effort;
 use candidate_rounds::rounds::Rounds;
 use kit::alloc::Global;
 use kit::prelude::Vec;
@@ -50,7 +51,7 @@ fn main() -> Result<(), Box<dyn Error>> {
         let (cx, first, second) = declare(bounded)?;
         let normal_forms = Vec::new(Global);
         let mut rounds = Rounds::with_open_aliases(Global, cx, TypingMode::Coherence, normal_forms, Vec::new(Global));
-        let overlap = impls_overlap(Global, &mut rounds, first, second, 8)?;
+        let overlap = impls_overlap(Global, &mut rounds, first, second, Effort::Rounds(8))?;
         println!("with a bound: {bounded}, they overlap: {}", matches!(overlap, Overlap::May(_)));
     }
     Ok(())

@@ -17,7 +17,7 @@ use Rattle.candidate_rounds.specs.Table.Running.{AreWritten}
 use Rattle.candidate_rounds.proofs.Table.Rounding.{length-new, length-put}
 use Rattle.candidate_rounds.proofs.Table.Sources.{copy-from}
 use Rattle.rounds_judge.specs.Table.GoalTable.{GoalTable}
-use Rattle.rounds_judge.specs.Table.Rounds.{PureFolder}
+use Rattle.rounds_judge.specs.Table.Rounds.{PureFolder, Stays}
 
 -- Two verdicts of a kind say the same only if they are by the same way and have the same response.
 
@@ -72,8 +72,8 @@ some-asked (suc n) [] l d z = absurd (omega (arith, l))
 some-asked (suc n) (e ∷ es) l d z = some-asked n es (omega (arith, l)) (λ q. d (ap suc q)) z
 
 -- What a round has for a table is of its trees.
-pub are-verdicts : (ts : List Tree) (A : PureFolder Via) (T : GoalTable Via) (es : List GoalEntry) (ws : List (Option Written)) → Each (IsEntryOf ts) es → AreWritten ts A T (table_seen ts es) ws → AreVerdicts ts es ws
-are-verdicts ts A T [] ws p h = tt
-are-verdicts ts A T (e ∷ es) [] p h = tt
-are-verdicts ts A T (e ∷ es) (None ∷ ws) p h = (p.0.verdict, tt, are-verdicts ts A T es ws p.1 h.1)
-are-verdicts ts A T (e ∷ es) (Some w ∷ ws) p h = (p.0.verdict, h.0.1.sort, are-verdicts ts A T es ws p.1 h.1)
+pub are-verdicts : (P : Stays Via) (ts : List Tree) (A : PureFolder Via) (T : GoalTable Via) (es : List GoalEntry) (ws : List (Option Written)) → Each (IsEntryOf ts) es → AreWritten P ts A T (table_seen ts es) ws → AreVerdicts ts es ws
+are-verdicts P ts A T [] ws p h = tt
+are-verdicts P ts A T (e ∷ es) [] p h = tt
+are-verdicts P ts A T (e ∷ es) (None ∷ ws) p h = (p.0.verdict, tt, are-verdicts P ts A T es ws p.1 h.1)
+are-verdicts P ts A T (e ∷ es) (Some w ∷ ws) p h = (p.0.verdict, h.0.1.sort, are-verdicts P ts A T es ws p.1 h.1)

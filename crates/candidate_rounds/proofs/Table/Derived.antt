@@ -1,4 +1,4 @@
--- A round that reads a derived table leaves one.
+-- A round or a step that reads a derived table leaves one.
 use Rattle.std.proofs.Common.{◌≡◌, Option, Some, None, List, [], ◌++◌, map, refl, sym, ◌∙◌, ap, subst}
 use Rattle.std.specs.List.{All, Contains}
 use Rattle.std.proofs.lemmas.List.Elements.{All-contains, All-contains_itself, All-weaker}
@@ -23,7 +23,7 @@ use Rattle.rounds_judge.specs.Aliases.Normalizing.{normalized}
 use Rattle.rounds_judge.specs.Aliases.WellListed.{well_listed}
 use Rattle.rounds_judge.specs.Table.GoalTable.{Entry, GoalTable, well_entered}
 use Rattle.rounds_judge.specs.Table.Keys.{Key, start_of}
-use Rattle.rounds_judge.specs.Table.Rounds.{IsRound}
+use Rattle.rounds_judge.specs.Table.Rounds.{IsWriting, Stays}
 use Rattle.rounds_judge.specs.Table.Verdicts.{Answer, by_certainty, verdict_of}
 use Rattle.rounds_judge.proofs.Aliases.WellListed.{all-listed, well-listed}
 use Rattle.rounds_judge.proofs.Lawfulness.TableLawful.{table_keeps_the_laws}
@@ -109,11 +109,11 @@ module _ (r : Evaluator) (fit : IsWellFormed r.context) (few : IsCounted r.conte
       let proved = All-contains (λ (y : Candidate). y.result.certainty ≡ C.Yes → IsProvedThere J h.context (start_of r.mode k) k.goal y.result) xs x each there sure in
       proved-derived T derived k good clean h.context h.grows h.well_formed x.result proved sure
 
-  round-left : (T U : GoalTable Via) → IsRound (computing r) T U → All (λ (e : Entry Via). Good e.key) T → AreDerived d (listing r) T → AreDerived d (listing r) U
+  round-left : {P : Stays Via} (T U : GoalTable Via) → IsWriting P (computing r) T U → All (λ (e : Entry Via). Good e.key) T → AreDerived d (listing r) T → AreDerived d (listing r) U
   round-left T U round keys derived = round_derives d (listing r) (computing r) Good computed-derived T U round keys derived
 
--- So a round leaves a derived table, over the context as it is then.
-pub round-derived : (r s : Evaluator) → IsWellFormed r.context → IsCounted r.context → IsEvaluator r.context r.inference r.marks r.normal r.opaques r.goals → StaysBesideTable r s → (U : GoalTable Via) → IsRound (computing r) (table_of r) U
+-- So a round or a step leaves a derived table, over the context as it is then.
+pub round-derived : {P : Stays Via} (r s : Evaluator) → IsWellFormed r.context → IsCounted r.context → IsEvaluator r.context r.inference r.marks r.normal r.opaques r.goals → StaysBesideTable r s → (U : GoalTable Via) → IsWriting P (computing r) (table_of r) U
     → TableIsDerived s.context (listing s) U
 round-derived r s fit few h stays U round =
     let p = parts h in
@@ -132,13 +132,13 @@ round-derived r s fit few h stays U round =
           (All-weaker (Contains (table_of r)) (λ (e : Entry Via). Good r fit few p.given q.declared q.well_formed q.grows before.listed e.key) good (table_of r) (All-contains_itself (table_of r))) (q.holds before);
     }))
 
--- What always holds of an evaluator holds of it once it has written a round.
-pub left-evaluator : (r n v : Evaluator) (ws : List (Option Written)) → IsWellFormed r.context → IsCounted r.context → IsEvaluator r.context r.inference r.marks r.normal r.opaques r.goals
-    → v ≡ n → StaysBesideTable r n → table_of n ≡ table_of r → AreWritten n.context.trees (computing r) (table_of r) (table_of r) ws → IsEvaluator v.context v.inference v.marks v.normal v.opaques v.goals
+-- What always holds of an evaluator holds of it once it has written a round or a step.
+pub left-evaluator : (P : Stays Via) (r n v : Evaluator) (ws : List (Option Written)) → IsWellFormed r.context → IsCounted r.context → IsEvaluator r.context r.inference r.marks r.normal r.opaques r.goals
+    → v ≡ n → StaysBesideTable r n → table_of n ≡ table_of r → AreWritten P n.context.trees (computing r) (table_of r) (table_of r) ws → IsEvaluator v.context v.inference v.marks v.normal v.opaques v.goals
     → IsEvaluator v.context v.inference v.marks v.normal v.opaques (record v.goals { table = all_written_into v.goals.table ws ++ map new_entry v.goals.asked; asked = [] })
-left-evaluator r n v ws fit few h e stays table written k =
+left-evaluator P r n v ws fit few h e stays table written k =
     let ts = v.context.trees in
     let same = ap table_of e ∙ table in
-    let all = subst (λ (x : Evaluator). AreWritten x.context.trees (computing r) (table_of r) (table_of r) ws) (sym e) written in
-    let round = round-written ts (computing r) (table_of r) v.goals ws same all (parts k).tabled in
-    evaluator-written ts (computing r) (table_of r) v.goals ws same all v.context refl v.inference v.marks v.normal v.opaques k (round-derived r v fit few h (subst (StaysBesideTable r) (sym e) stays) _ round)
+    let all = subst (λ (x : Evaluator). AreWritten P x.context.trees (computing r) (table_of r) (table_of r) ws) (sym e) written in
+    let round = round-written P ts (computing r) (table_of r) v.goals ws same all (parts k).tabled in
+    evaluator-written P ts (computing r) (table_of r) v.goals ws same all v.context refl v.inference v.marks v.normal v.opaques k (round-derived r v fit few h (subst (StaysBesideTable r) (sym e) stays) _ round)

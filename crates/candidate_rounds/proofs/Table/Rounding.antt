@@ -31,36 +31,37 @@ use Rattle.candidate_rounds.proofs.Table.Tabled.{of-table-parts, table-parts}
 use Rattle.rounds_judge.specs.Table.GoalTable.{AreNew, Entry, GoalTable, entered_in, is_entered, most_goals, unanswered, verdict_in, with_verdict}
 use Rattle.rounds_judge.specs.Table.Keys.{Key, key_at, same_goal, same_key}
 use Rattle.rounds_judge.specs.Table.Rounds as R
-use Rattle.rounds_judge.specs.Table.Rounds.{PureFolder, Changes, IsRound, IsStill, Rounds, Writes}
+use Rattle.rounds_judge.specs.Table.Rounds.{PureFolder, Changes, IsAtRest, IsFinalEntry, IsRound, IsStep, IsStill, IsWriting, Rounds, Settles, Stays, Steps, StepsWithin, Writes, most_steps}
 use Rattle.rounds_judge.specs.Table.Verdicts.{is_final}
 use Rattle.derivations.specs.DerivedTables.{TableIsDerived}
 
-module _ (ts : List Tree) (A : PureFolder Via) (T : GoalTable Via) where
-  -- What is written is what a round makes of the entries.
-  pub writes-put : (es : List GoalEntry) (ws : List (Option Written)) → AreWritten ts A T (table_seen ts es) ws → Writes A T (table_seen ts es) (table_seen ts (all_written_into es ws))
+module _ (P : Stays Via) (ts : List Tree) (A : PureFolder Via) (T : GoalTable Via) where
+  -- What is written is what a round or a step makes of the entries.
+  pub writes-put : (es : List GoalEntry) (ws : List (Option Written)) → AreWritten P ts A T (table_seen ts es) ws → Writes P A T (table_seen ts es) (table_seen ts (all_written_into es ws))
   writes-put [] [] h = R.nothing
   writes-put [] (w ∷ ws) h = absurd h
   writes-put (e ∷ es) [] h = absurd h
   writes-put (e ∷ es) (None ∷ ws) h = R.stays (entry_seen ts e) h.0 (writes-put es ws h.1)
   writes-put (e ∷ es) (Some w ∷ ws) h =
       let g = h.0.1 in
-      subst (λ v. Writes A T (table_seen ts (e ∷ es)) (with_verdict (entry_seen ts e) v ∷ table_seen ts (all_written_into es ws))) (sym g.says)
+      subst (λ v. Writes P A T (table_seen ts (e ∷ es)) (with_verdict (entry_seen ts e) v ∷ table_seen ts (all_written_into es ws))) (sym g.says)
       (R.computed (entry_seen ts e) g.answer h.0.0 g.computed (writes-put es ws h.1))
 
-  pub entries-put : (es : List GoalEntry) (ws : List (Option Written)) → Each (IsEntryOf ts) es → AreWritten ts A T (table_seen ts es) ws → Each (IsEntryOf ts) (all_written_into es ws)
+  pub entries-put : (es : List GoalEntry) (ws : List (Option Written)) → Each (IsEntryOf ts) es → AreWritten P ts A T (table_seen ts es) ws → Each (IsEntryOf ts) (all_written_into es ws)
   entries-put [] ws p h = tt
   entries-put (e ∷ es) [] p h = absurd h
   entries-put (e ∷ es) (None ∷ ws) p h = (p.0, entries-put es ws p.1 h.1)
   entries-put (e ∷ es) (Some w ∷ ws) p h = (record { key = p.0.key; verdict = h.0.1.sort; readable = h.0.1.readable }, entries-put es ws p.1 h.1)
 
-  -- A place that isn't final has something written.
+module _ (ts : List Tree) (A : PureFolder Via) (T : GoalTable Via) where
+  -- In a round a place that isn't final has something written.
   pub record IsWrittenThere (es more : List GoalEntry) (ws : List (Option Written)) (p : ℕ) : Type 0 where
     pub written : Written
     pub there : slice_get ws p ≡ Some (Some written)
     pub sort : IsVerdict ts (Some written.verdict)
     pub verdict : verdict_at (table_seen ts (all_written_into es ws ++ more)) p ≡ Some (verdict_seen ts written.verdict)
 
-  pub written-there : (es more : List GoalEntry) (ws : List (Option Written)) (p : ℕ) → AreWritten ts A T (table_seen ts es) ws → p < length es → is_final (verdict_at (table_seen ts es) p) ≡ false → IsWrittenThere es more ws p
+  pub written-there : (es more : List GoalEntry) (ws : List (Option Written)) (p : ℕ) → AreWritten IsFinalEntry ts A T (table_seen ts es) ws → p < length es → is_final (verdict_at (table_seen ts es) p) ≡ false → IsWrittenThere es more ws p
   written-there [] more ws p h l f = absurd (omega (arith, l))
   written-there (e ∷ es) more [] p h l f = absurd h
   written-there (e ∷ es) more (None ∷ ws) zero h l f = absurd (let clash : true ≡ false = sym h.0 ∙ f in cc)
@@ -90,11 +91,11 @@ pub length-new : (ks : List GoalKey) → length (map new_entry ks) ≡ length ks
 length-new [] = refl
 length-new (k ∷ ks) = ap suc (length-new ks)
 
--- The table that a round leaves.
+-- The table that a round or a step leaves.
 
-module _ (ts : List Tree) (A : PureFolder Via) (T : GoalTable Via) (g : Goals) (ws : List (Option Written)) (same : table_seen ts g.table ≡ T) (h : AreWritten ts A T T ws) where
-  by-numbers : AreWritten ts A T (table_seen ts g.table) ws
-  by-numbers = subst (λ es. AreWritten ts A T es ws) (sym same) h
+module _ (P : Stays Via) (ts : List Tree) (A : PureFolder Via) (T : GoalTable Via) (g : Goals) (ws : List (Option Written)) (same : table_seen ts g.table ≡ T) (h : AreWritten P ts A T T ws) where
+  by-numbers : AreWritten P ts A T (table_seen ts g.table) ws
+  by-numbers = subst (λ es. AreWritten P ts A T es ws) (sym same) h
 
   tabled-written : IsTabled ts g → IsTabled ts (record g { table = all_written_into g.table ws ++ map new_entry g.asked; asked = [] })
   tabled-written t =
@@ -104,7 +105,7 @@ module _ (ts : List Tree) (A : PureFolder Via) (T : GoalTable Via) (g : Goals) (
       let three = length-new g.asked in
       let room = p.room in
       of-table-parts (record {
-        entries = each-join (IsEntryOf ts) (all_written_into g.table ws) (map new_entry g.asked) (entries-put ts A T g.table ws p.entries by-numbers) (entries-new ts g.asked p.keys);
+        entries = each-join (IsEntryOf ts) (all_written_into g.table ws) (map new_entry g.asked) (entries-put P ts A T g.table ws p.entries by-numbers) (entries-new ts g.asked p.keys);
         keys = tt;
         are_new = tt;
         room = omega (arith, one, two, three, room);
@@ -124,17 +125,18 @@ module _ (ts : List Tree) (A : PureFolder Via) (T : GoalTable Via) (g : Goals) (
         derived = subst (λ us. TableIsDerived c (listing_by us ns) (table_seen us h.table)) q d;
       })
 
-  pub round-written : IsTabled ts g → IsRound A T (table_seen ts (all_written_into g.table ws ++ map new_entry g.asked))
+  pub round-written : IsTabled ts g → IsWriting P A T (table_seen ts (all_written_into g.table ws ++ map new_entry g.asked))
   round-written t = record {
     written = table_seen ts (all_written_into g.table ws);
-    writes = subst (λ es. Writes A T es (table_seen ts (all_written_into g.table ws))) same (writes-put ts A T g.table ws by-numbers);
+    writes = subst (λ es. Writes P A T es (table_seen ts (all_written_into g.table ws))) same (writes-put P ts A T g.table ws by-numbers);
     asked = keys_seen ts g.asked;
     are_new = subst (λ es. AreNew es (keys_seen ts g.asked)) same (table-parts t).are_new;
     is = map-append (entry_seen ts) (all_written_into g.table ws) (map new_entry g.asked) ∙ ap (λ es. table_seen ts (all_written_into g.table ws) ++ es) (seen-new ts g.asked);
   }
 
+module _ (ts : List Tree) (A : PureFolder Via) (T : GoalTable Via) (g : Goals) (ws : List (Option Written)) (same : table_seen ts g.table ≡ T) (h : AreWritten IsFinalEntry ts A T T ws) where
   pub place-written : (p : ℕ) → p < length g.table → is_final (verdict_at T p) ≡ false → IsWrittenThere ts A T g.table (map new_entry g.asked) ws p
-  place-written p l f = written-there ts A T g.table (map new_entry g.asked) ws p by-numbers l (ap (λ es. is_final (verdict_at es p)) same ∙ f)
+  place-written p l f = written-there ts A T g.table (map new_entry g.asked) ws p (by-numbers IsFinalEntry ts A T g ws same h) l (ap (λ es. is_final (verdict_at es p)) same ∙ f)
 
 -- A key is the same as itself.
 
@@ -199,14 +201,14 @@ place-before [] U k p h = absurd h
 place-before (e ∷ T) U k zero h = h
 place-before (e ∷ T) U k (suc p) h = (h.0, place-before T U k p h.1)
 
-place-kept : {A : PureFolder Via} {T es fs : GoalTable Via} (k : Key) (p : ℕ) → Writes A T es fs → IsPlaceOf es k p → IsPlaceOf fs k p
+place-kept : {P : Stays Via} {A : PureFolder Via} {T es fs : GoalTable Via} (k : Key) (p : ℕ) → Writes P A T es fs → IsPlaceOf es k p → IsPlaceOf fs k p
 place-kept k p R.nothing h = h
 place-kept k zero (R.stays e f w) h = h
 place-kept k (suc p) (R.stays e f w) h = (h.0, place-kept k p w h.1)
 place-kept k zero (R.computed e a f c w) h = h
 place-kept k (suc p) (R.computed e a f c w) h = (h.0, place-kept k p w h.1)
 
-pub place-in-round : {A : PureFolder Via} {T U : GoalTable Via} (k : Key) (p : ℕ) → IsRound A T U → IsPlaceOf T k p → IsPlaceOf U k p
+pub place-in-round : {P : Stays Via} {A : PureFolder Via} {T U : GoalTable Via} (k : Key) (p : ℕ) → IsWriting P A T U → IsPlaceOf T k p → IsPlaceOf U k p
 place-in-round k p r h = subst (λ es. IsPlaceOf es k p) (sym r.is) (place-before r.written (map unanswered r.asked) k p (place-kept k p r.writes h))
 
 -- A goal is looked for, one place after another.
@@ -260,12 +262,12 @@ final-done A k n t T U d f l = rest (t - n) (omega (arith, l))
 pub still-done : (A : PureFolder Via) (k : Key) (n t : ℕ) (T U : GoalTable Via) → AreDone A k n T U → is_final (verdict_in U k) ≡ false → IsStill A U → n < t → Rounds A k t T U
 still-done A k n t T U d f r l = done-then A k n (suc (t - suc n)) t d (R.still f r) (omega (arith, l))
 
-writes-many : {A : PureFolder Via} {T es fs : GoalTable Via} → Writes A T es fs → length fs ≡ length es
+writes-many : {P : Stays Via} {A : PureFolder Via} {T es fs : GoalTable Via} → Writes P A T es fs → length fs ≡ length es
 writes-many R.nothing = refl
 writes-many (R.stays e f w) = ap suc (writes-many w)
 writes-many (R.computed e a f c w) = ap suc (writes-many w)
 
-round-longer : {A : PureFolder Via} {T U : GoalTable Via} → IsRound A T U → length T ≤ length U
+pub round-longer : {P : Stays Via} {A : PureFolder Via} {T U : GoalTable Via} → IsWriting P A T U → length T ≤ length U
 round-longer r =
     let one = writes-many r.writes in
     let two = length-append r.written (map unanswered r.asked) in

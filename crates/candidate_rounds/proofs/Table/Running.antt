@@ -30,7 +30,7 @@ use Rattle.candidate_rounds.proofs.Table.Tabled.{of-table-parts, table-parts, ve
 use Rattle.rounds_judge.specs.Table.GoalTable.{Entry, GoalTable, is_entered, may_be_read, most_goals}
 use Rattle.rounds_judge.specs.Table.Keys.{Key, key_at, start_of}
 use Rattle.rounds_judge.specs.Table.Rounds as R
-use Rattle.rounds_judge.specs.Table.Rounds.{PureFolder, IsRound, Writes}
+use Rattle.rounds_judge.specs.Table.Rounds.{IsWriting, PureFolder, Stays, Writes}
 use Rattle.derivations.specs.DerivedTables.{TableIsDerived}
 use Rattle.derivations.proofs.Declared.{one_unanswered}
 
@@ -97,12 +97,12 @@ pub entering-before : {r s : Evaluator} → StaysBesideTable r s → (ts : List 
 entering-before x ts g h T e q (Running.entering_key k) = Running.entering_key (subst (λ (p : State × TraitGoal). IsGoalKeyStop ts p.0 p.1 e) (λ i. (x.state_same i, q i)) k)
 entering-before x ts g h T _ q (Running.entering_full n l) = Running.entering_full (subst (λ (p : State × TraitGoal). is_entered T (key_at p.0 p.1) ≡ false) (λ i. (x.state_same i, q i)) n) l
 
-writes-before : {r s : Evaluator} → StaysBesideTable r s → (T : GoalTable Via) {es fs : GoalTable Via} → Writes (computing s) T es fs → Writes (computing r) T es fs
+writes-before : {P : Stays Via} {r s : Evaluator} → StaysBesideTable r s → (T : GoalTable Via) {es fs : GoalTable Via} → Writes P (computing s) T es fs → Writes P (computing r) T es fs
 writes-before x T R.nothing = R.nothing
 writes-before x T (R.stays e f w) = R.stays e f (writes-before x T w)
 writes-before x T (R.computed e a f c w) = R.computed e a f (computed-before x T e.key a c) (writes-before x T w)
 
-pub round-before : {r s : Evaluator} → StaysBesideTable r s → {T U : GoalTable Via} → IsRound (computing s) T U → IsRound (computing r) T U
+pub round-before : {P : Stays Via} {r s : Evaluator} → StaysBesideTable r s → {T U : GoalTable Via} → IsWriting P (computing s) T U → IsWriting P (computing r) T U
 round-before x {T} h = record { written = h.written; writes = writes-before x T h.writes; asked = h.asked; are_new = h.are_new; is = h.is }
 
 -- What a round has for places, so far.
@@ -110,39 +110,40 @@ round-before x {T} h = record { written = h.written; writes = writes-before x T 
 written-for : {r s : Evaluator} → StaysBesideTable r s → (ts : List Tree) (T : GoalTable Via) (k : Key) (w : Written) → IsWrittenFor ts (computing s) T k w → IsWrittenFor ts (computing r) T k w
 written-for x ts T k w h = record { answer = h.answer; computed = computed-before x T k h.answer h.computed; says = h.says; sort = h.sort; readable = h.readable }
 
-pub written-at-before : {r s : Evaluator} → StaysBesideTable r s → (ts : List Tree) (T : GoalTable Via) (e : Entry Via) (w : Option Written) → IsWrittenAt ts (computing s) T e w → IsWrittenAt ts (computing r) T e w
-written-at-before x ts T e None h = h
-written-at-before x ts T e (Some w) h = (h.0, written-for x ts T e.key w h.1)
+pub written-at-before : (P : Stays Via) {r s : Evaluator} → StaysBesideTable r s → (ts : List Tree) (T : GoalTable Via) (e : Entry Via) (w : Option Written) → IsWrittenAt P ts (computing s) T e w
+    → IsWrittenAt P ts (computing r) T e w
+written-at-before P x ts T e None h = h
+written-at-before P x ts T e (Some w) h = (h.0, written-for x ts T e.key w h.1)
 
-written-grown : (ts us : List Tree) → Extends ts us → (A : PureFolder Via) (T : GoalTable Via) (e : Entry Via) (w : Option Written) → IsWrittenAt ts A T e w → IsWrittenAt us A T e w
-written-grown ts us x A T e None h = h
-written-grown ts us x A T e (Some w) h =
+written-grown : (P : Stays Via) (ts us : List Tree) → Extends ts us → (A : PureFolder Via) (T : GoalTable Via) (e : Entry Via) (w : Option Written) → IsWrittenAt P ts A T e w → IsWrittenAt P us A T e w
+written-grown P ts us x A T e None h = h
+written-grown P ts us x A T e (Some w) h =
     let g = h.1 in
     let v : Some (verdict_seen us w.verdict) ≡ Some (verdict_seen ts w.verdict) = verdict-sees ts us x (Some w.verdict) g.sort in
     let q : verdict_seen us w.verdict ≡ verdict_seen ts w.verdict = cc in
     (h.0, record { answer = g.answer; computed = g.computed; says = q ∙ g.says; sort = verdict-stays ts us x (Some w.verdict) g.sort; readable = g.readable ∙ sym (ap (λ o. may_be_read e.key o) v) })
 
-all-written-grown : (ts us : List Tree) → Extends ts us → (A : PureFolder Via) (T es : GoalTable Via) (ws : List (Option Written)) → AreWritten ts A T es ws → AreWritten us A T es ws
-all-written-grown ts us x A T [] [] h = tt
-all-written-grown ts us x A T (e ∷ es) (w ∷ ws) h = (written-grown ts us x A T e w h.0, all-written-grown ts us x A T es ws h.1)
-all-written-grown ts us x A T [] (w ∷ ws) h = h
-all-written-grown ts us x A T (e ∷ es) [] h = h
+all-written-grown : (P : Stays Via) (ts us : List Tree) → Extends ts us → (A : PureFolder Via) (T es : GoalTable Via) (ws : List (Option Written)) → AreWritten P ts A T es ws → AreWritten P us A T es ws
+all-written-grown P ts us x A T [] [] h = tt
+all-written-grown P ts us x A T (e ∷ es) (w ∷ ws) h = (written-grown P ts us x A T e w h.0, all-written-grown P ts us x A T es ws h.1)
+all-written-grown P ts us x A T [] (w ∷ ws) h = h
+all-written-grown P ts us x A T (e ∷ es) [] h = h
 
-written-more : (ts : List Tree) (A : PureFolder Via) (T es : GoalTable Via) (ws : List (Option Written)) (i : ℕ) (e : Entry Via) (w : Option Written) → slice_get es i ≡ Some e
-    → AreWritten ts A T (take i es) ws → IsWrittenAt ts A T e w → AreWritten ts A T (take (suc i) es) (ws ++ w ∷ [])
-written-more ts A T [] ws i e w g h k = absurd cc
-written-more ts A T (d ∷ es) [] zero e w g h k = let q : d ≡ e = cc in (subst (λ x. IsWrittenAt ts A T x w) (sym q) k, tt)
-written-more ts A T (d ∷ es) (v ∷ ws) zero e w g h k = absurd h
-written-more ts A T (d ∷ es) [] (suc i) e w g h k = absurd h
-written-more ts A T (d ∷ es) (v ∷ ws) (suc i) e w g h k = (h.0, written-more ts A T es ws i e w g h.1 k)
+written-more : (P : Stays Via) (ts : List Tree) (A : PureFolder Via) (T es : GoalTable Via) (ws : List (Option Written)) (i : ℕ) (e : Entry Via) (w : Option Written) → slice_get es i ≡ Some e
+    → AreWritten P ts A T (take i es) ws → IsWrittenAt P ts A T e w → AreWritten P ts A T (take (suc i) es) (ws ++ w ∷ [])
+written-more P ts A T [] ws i e w g h k = absurd cc
+written-more P ts A T (d ∷ es) [] zero e w g h k = let q : d ≡ e = cc in (subst (λ x. IsWrittenAt P ts A T x w) (sym q) k, tt)
+written-more P ts A T (d ∷ es) (v ∷ ws) zero e w g h k = absurd h
+written-more P ts A T (d ∷ es) [] (suc i) e w g h k = absurd h
+written-more P ts A T (d ∷ es) (v ∷ ws) (suc i) e w g h k = (h.0, written-more P ts A T es ws i e w g h.1 k)
 
-pub record WrittenSoFar (old now : Evaluator) (i : ℕ) (ws : List (Option Written)) : Type 0 where
+pub record WrittenSoFar (P : Stays Via) (old now : Evaluator) (i : ℕ) (ws : List (Option Written)) : Type 0 where
   pub stays : StaysBesideTable old now
   pub table : table_of now ≡ table_of old
-  pub written : AreWritten now.context.trees (computing old) (table_of old) (take i (table_of old)) ws
+  pub written : AreWritten P now.context.trees (computing old) (table_of old) (take i (table_of old)) ws
 
-pub none-written : (r : Evaluator) → WrittenSoFar r r 0 []
-none-written r = record { stays = stays-refl r; table = refl; written = tt }
+pub none-written : (P : Stays Via) (r : Evaluator) → WrittenSoFar P r r 0 []
+none-written P r = record { stays = stays-refl r; table = refl; written = tt }
 
 -- the entry of a place of the table, as it is seen
 
@@ -151,22 +152,22 @@ seen-at ts [] i l = absurd (omega (arith, l))
 seen-at ts (e ∷ es) zero l = (e, refl, refl)
 seen-at ts (e ∷ es) (suc i) l = seen-at ts es i (omega (arith, l))
 
-pub one-more-written : {r s t : Evaluator} (i : ℕ) (ws : List (Option Written)) (w : Option Written) → WrittenSoFar r s i ws → i < length s.goals.table
+pub one-more-written : (P : Stays Via) {r s t : Evaluator} (i : ℕ) (ws : List (Option Written)) (w : Option Written) → WrittenSoFar P r s i ws → i < length s.goals.table
     → StaysBesideTable s t → table_of t ≡ table_of s
-    → ((e : Entry Via) → slice_get (table_of s) i ≡ Some e → IsWrittenAt t.context.trees (computing s) (table_of s) e w)
-    → WrittenSoFar r t (suc i) (ws ++ w ∷ [])
-one-more-written {r} {s} {t} i ws w h l x same at =
+    → ((e : Entry Via) → slice_get (table_of s) i ≡ Some e → IsWrittenAt P t.context.trees (computing s) (table_of s) e w)
+    → WrittenSoFar P r t (suc i) (ws ++ w ∷ [])
+one-more-written P {r} {s} {t} i ws w h l x same at =
     let p = seen-at s.context.trees s.goals.table i l in
     let e = entry_seen s.context.trees p.0 in
     let ts = t.context.trees in
-    let now = written-at-before h.stays ts (table_of s) e w (at e p.2) in
+    let now = written-at-before P h.stays ts (table_of s) e w (at e p.2) in
     record {
       stays = stays-trans h.stays x;
       table = same ∙ h.table;
       written =
-          written-more ts (computing r) (table_of r) (table_of r) ws i e w (ap (λ T. slice_get T i) (sym h.table) ∙ p.2)
-          (all-written-grown s.context.trees ts x.grows.kept (computing r) (table_of r) (take i (table_of r)) ws h.written)
-          (subst (λ T. IsWrittenAt ts (computing r) T e w) h.table now);
+          written-more P ts (computing r) (table_of r) (table_of r) ws i e w (ap (λ T. slice_get T i) (sym h.table) ∙ p.2)
+          (all-written-grown P s.context.trees ts x.grows.kept (computing r) (table_of r) (take i (table_of r)) ws h.written)
+          (subst (λ T. IsWrittenAt P ts (computing r) T e w) h.table now);
     }
 
 pub take-all : {A : Type 0} (xs : List A) (n : ℕ) → length xs ≤ n → take n xs ≡ xs
@@ -185,16 +186,16 @@ seen-length r = length-map (entry_seen r.context.trees) r.goals.table
 pub same-length : (r s : Evaluator) → table_of s ≡ table_of r → length s.goals.table ≡ length r.goals.table
 same-length r s e = sym (length-map (entry_seen s.context.trees) s.goals.table) ∙ (ap length e ∙ length-map (entry_seen r.context.trees) r.goals.table)
 
-pub all-are-written : {r s : Evaluator} (i : ℕ) (ws : List (Option Written)) → WrittenSoFar r s i ws → length r.goals.table ≤ i → AreWritten s.context.trees (computing r) (table_of r) (table_of r) ws
-all-are-written {r} {s} i ws h l =
+pub all-are-written : (P : Stays Via) {r s : Evaluator} (i : ℕ) (ws : List (Option Written)) → WrittenSoFar P r s i ws → length r.goals.table ≤ i → AreWritten P s.context.trees (computing r) (table_of r) (table_of r) ws
+all-are-written P {r} {s} i ws h l =
     let many = length-map (entry_seen r.context.trees) r.goals.table in
-    subst (λ es. AreWritten s.context.trees (computing r) (table_of r) es ws) (take-all (table_of r) i (omega (arith, l, many))) h.written
+    subst (λ es. AreWritten P s.context.trees (computing r) (table_of r) es ws) (take-all (table_of r) i (omega (arith, l, many))) h.written
 
-pub written-length : (ts : List Tree) (A : PureFolder Via) (T es : GoalTable Via) (ws : List (Option Written)) → AreWritten ts A T es ws → length ws ≡ length es
-written-length ts A T [] [] h = refl
-written-length ts A T [] (w ∷ ws) h = absurd h
-written-length ts A T (e ∷ es) [] h = absurd h
-written-length ts A T (e ∷ es) (w ∷ ws) h = ap suc (written-length ts A T es ws h.1)
+pub written-length : (P : Stays Via) (ts : List Tree) (A : PureFolder Via) (T es : GoalTable Via) (ws : List (Option Written)) → AreWritten P ts A T es ws → length ws ≡ length es
+written-length P ts A T [] [] h = refl
+written-length P ts A T [] (w ∷ ws) h = absurd h
+written-length P ts A T (e ∷ es) [] h = absurd h
+written-length P ts A T (e ∷ es) (w ∷ ws) h = ap suc (written-length P ts A T es ws h.1)
 
 -- What is written at a place, by its entry.
 pub verdict-there : (ts : List Tree) (es : List GoalEntry) (i : ℕ) (d : GoalEntry) → i < length es → verdict_at (table_seen ts es) i ≡ option_map (verdict_seen ts) (slice_index_or es i d).1.verdict

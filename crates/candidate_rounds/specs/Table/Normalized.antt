@@ -15,13 +15,14 @@ use Rattle.candidate_rounds.specs.Evaluators.Interface.{fixed}
 use Rattle.candidate_rounds.specs.Evaluators.Known.{Evaluator, state, table_of}
 use Rattle.candidate_rounds.specs.Evaluators.Stopping.{IsGoalKeyStop}
 use Rattle.candidate_rounds.specs.Table.Goals.{Via}
-use Rattle.candidate_rounds.specs.Table.Running.{IsLeftStopped, computing, judged_by, with_table}
+use Rattle.candidate_rounds.specs.Table.Running.{computing, judged_by, with_table}
 use Rattle.projection_goals.specs.declared.kind.NormalizesTo.{NormalizesTo}
 use Rattle.projection_goals.specs.Closures.{always, answers_rigid}
 use Rattle.projection_goals.specs.Normalizing.{normalizes_goal, normalizes_kind}
 use Rattle.rounds_judge.specs.Table.GoalTable.{GoalTable, AreNew, unanswered, verdict_in}
 use Rattle.rounds_judge.specs.Table.Keys.{Key, key_at, start_of}
-use Rattle.rounds_judge.specs.Table.Rounds.{IsRun}
+use Rattle.candidate_rounds.specs.declared.rounds.effort.Effort.{Effort}
+use Rattle.candidate_rounds.specs.Table.Efforts.{IsLeftBy, Runs}
 use Rattle.rounds_judge.specs.Table.Verdicts.{Verdict, Maybe, Refused, Yes}
 use Rattle.candidate_eval.specs.Outcomes.ResponseTrees.{response_of}
 use Rattle.candidate_rounds.specs.Table.DerivedNormals.{SureIsDerived}
@@ -72,14 +73,14 @@ pub data IsLeftAfter (T U : GoalTable Via) : Result (Option CanonicalResponse) S
   stopped : {s : Stop} → U ≡ T → IsLeftAfter T U (Err s)
   answered : {o : Option CanonicalResponse} (asked : List Key) → AreNew T asked → U ≡ T ++ map unanswered asked → IsLeftAfter T U (Ok o)
 
--- What a projection comes to in so many rounds at most, by the evaluator before, and the table that is left: the run of its trait's goal
+-- What a projection comes to by that effort, by the evaluator before, and the table that is left: the run of its trait's goal
 -- stopped; or the goal is refused, and so is the projection; or else the projection's goal is computed under the table that the run left.
-pub data IsNormalized (ts : List Tree) (r : Evaluator) (e : ParamEnv) (a : AliasTy) (rounds : ℕ) (U : GoalTable Via) : Result (Option CanonicalResponse) Stop → Type 0 where
-  not_run : {s : Stop} → IsLeftStopped ts r (goal_of_trait r.context e a) rounds (table_of r) U s → IsNormalized ts r e a rounds U (Err s)
-  not_keyed : {s : Stop} → IsRun (computing r) (key_at (state r) (goal_of_trait r.context e a)) rounds (table_of r) U → IsGoalKeyStop ts (state r) (goal_of_trait r.context e a) s
-      → IsNormalized ts r e a rounds U (Err s)
-  refused : IsRun (computing r) (key_at (state r) (goal_of_trait r.context e a)) rounds (table_of r) U → verdict_in U (key_at (state r) (goal_of_trait r.context e a)) ≡ Some Refused
-      → IsNormalized ts r e a rounds U (Ok None)
-  normalized : {o : Result (Option CanonicalResponse) Stop} (T : GoalTable Via) (v : Verdict Via) (way : Option Via) → IsRun (computing r) (key_at (state r) (goal_of_trait r.context e a)) rounds (table_of r) T
+pub data IsNormalized (ts : List Tree) (r : Evaluator) (e : ParamEnv) (a : AliasTy) (effort : Effort) (U : GoalTable Via) : Result (Option CanonicalResponse) Stop → Type 0 where
+  not_run : {s : Stop} → IsLeftBy ts r (goal_of_trait r.context e a) effort (table_of r) U s → IsNormalized ts r e a effort U (Err s)
+  not_keyed : {s : Stop} → Runs (computing r) (key_at (state r) (goal_of_trait r.context e a)) effort (table_of r) U → IsGoalKeyStop ts (state r) (goal_of_trait r.context e a) s
+      → IsNormalized ts r e a effort U (Err s)
+  refused : Runs (computing r) (key_at (state r) (goal_of_trait r.context e a)) effort (table_of r) U → verdict_in U (key_at (state r) (goal_of_trait r.context e a)) ≡ Some Refused
+      → IsNormalized ts r e a effort U (Ok None)
+  normalized : {o : Result (Option CanonicalResponse) Stop} (T : GoalTable Via) (v : Verdict Via) (way : Option Via) → Runs (computing r) (key_at (state r) (goal_of_trait r.context e a)) effort (table_of r) T
       → verdict_in T (key_at (state r) (goal_of_trait r.context e a)) ≡ Some v → proved_via v ≡ Some way → IsNormalizedAt ts r T (key_at (state r) (goal_of_trait r.context e a)) a.id.0 way o
-      → IsLeftAfter T U o → IsNormalized ts r e a rounds U o
+      → IsLeftAfter T U o → IsNormalized ts r e a effort U o

@@ -28,7 +28,7 @@ use Rattle.candidate_rounds.specs.Evaluators.Stopping.{IsGoalKeyStop, accounts}
 use Rattle.derivations.specs.DerivedTables.{AnswerIsDerived}
 use Rattle.rounds_judge.specs.Table.GoalTable.{Entry, GoalTable, entered_in, is_entered, may_be_read, most_goals, verdict_in}
 use Rattle.rounds_judge.specs.Table.Keys.{Key, key_at, same_key, start_of}
-use Rattle.rounds_judge.specs.Table.Rounds.{PureFolder, Changes, IsRound}
+use Rattle.rounds_judge.specs.Table.Rounds.{PureFolder, Changes, IsRound, Stays, StepsWithin, most_steps}
 use Rattle.rounds_judge.specs.Table.Verdicts.{Answer, Verdict, is_final, verdict_of}
 
 -- An answer by its trees, and as what a goal comes to.
@@ -90,7 +90,8 @@ pub record StaysBesideTable (old new : Evaluator) : Type 0 where
   pub probes_same : probes new ≡ probes old
   pub faults : PutsOffByGoals old.context.delayed_bugs new.context.delayed_bugs
 
--- What a round has for a place of the table: nothing where what is there is final, and else the verdict of what the goal comes to.
+-- What a round or a step has for a place of the table: nothing where what is there may stay, and else the verdict of what the goal comes
+-- to, which isn't final yet.
 
 pub record IsWrittenFor (ts : List Tree) (A : PureFolder Via) (T : GoalTable Via) (k : Key) (w : Written) : Type 0 where
   pub answer : Answer Via
@@ -99,14 +100,14 @@ pub record IsWrittenFor (ts : List Tree) (A : PureFolder Via) (T : GoalTable Via
   pub sort : IsVerdict ts (Some w.verdict)
   pub readable : w.is_readable ≡ may_be_read k (Some (verdict_seen ts w.verdict))
 
-abbrev pub IsWrittenAt : List Tree → PureFolder Via → GoalTable Via → Entry Via → Option Written → Type 0
-IsWrittenAt ts A T e None = is_final e.verdict ≡ true
-IsWrittenAt ts A T e (Some w) = (is_final e.verdict ≡ false) × IsWrittenFor ts A T e.key w
+abbrev pub IsWrittenAt : Stays Via → List Tree → PureFolder Via → GoalTable Via → Entry Via → Option Written → Type 0
+IsWrittenAt P ts A T e None = P e
+IsWrittenAt P ts A T e (Some w) = (is_final e.verdict ≡ false) × IsWrittenFor ts A T e.key w
 
-abbrev pub AreWritten : List Tree → PureFolder Via → GoalTable Via → GoalTable Via → List (Option Written) → Type 0
-AreWritten ts A T [] [] = Unit {0}
-AreWritten ts A T (e ∷ es) (w ∷ ws) = IsWrittenAt ts A T e w × AreWritten ts A T es ws
-AreWritten ts A T _ _ = ⊥
+abbrev pub AreWritten : Stays Via → List Tree → PureFolder Via → GoalTable Via → GoalTable Via → List (Option Written) → Type 0
+AreWritten P ts A T [] [] = Unit {0}
+AreWritten P ts A T (e ∷ es) (w ∷ ws) = IsWrittenAt P ts A T e w × AreWritten P ts A T es ws
+AreWritten P ts A T _ _ = ⊥
 
 -- the first goal with that key has that place
 abbrev pub IsPlaceOf : GoalTable Via → Key → ℕ → Type 0
@@ -176,3 +177,9 @@ pub data IsLeftStopped (ts : List Tree) (r : Evaluator) (g : TraitGoal) (rounds 
   not_entered : {s : Stop} → IsEnteringStop ts r g T s → U ≡ T → IsLeftStopped ts r g rounds T U s
   after_rounds : {s : Stop} → IsRoundStop ts r U s → IsDoneBelow (computing r) (key_at (state r) g) rounds (entered_in T (key_at (state r) g)) U
       → IsLeftStopped ts r g rounds T U s
+
+-- The same of a run until the table is settled: where a step stopped, the table is that of the last whole step.
+pub data IsLeftUnsettled (ts : List Tree) (r : Evaluator) (g : TraitGoal) (T U : GoalTable Via) : Stop → Type 0 where
+  not_begun : {s : Stop} → IsEnteringStop ts r g T s → U ≡ T → IsLeftUnsettled ts r g T U s
+  after_steps : {s : Stop} → IsRoundStop ts r U s → StepsWithin (computing r) (key_at (state r) g) most_steps (entered_in T (key_at (state r) g)) U
+      → IsLeftUnsettled ts r g T U s

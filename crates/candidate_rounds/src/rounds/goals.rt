@@ -11,6 +11,7 @@ ghost use Rattle.candidate_rounds.specs.Table.Goals.{HasRoomFor, IsFullFor, is_n
 ghost use Rattle.candidate_rounds.specs.Table.KeyNumbers.{same_numbers};
 ghost use Rattle.rounds_judge.specs.Table.GoalTable.{most_goals};
 
+use crate::rounds::due::LookUps;
 use crate::rounds::writing::{Written, are_there, put_all_in};
 use candidate_assembly::assembly::merging::TraitGoalProvenVia;
 use candidate_eval::eval::response::CanonicalResponse;
@@ -112,6 +113,8 @@ pub(crate) struct Goals {
     count: usize,
     /// Whether a round is being done: it asks for goals that the table doesn't have.
     pub asks: bool,
+    /// What goals looked up while they were computed. It is no part of the view.
+    look_ups: LookUps,
 }
 
 impl Model for Goals {
@@ -148,6 +151,7 @@ impl Goals {
             entries: IndexMap::new(alloc),
             count: 0,
             asks: false,
+            look_ups: LookUps::new(alloc),
         }
     }
 
@@ -209,12 +213,15 @@ impl Goals {
         ensures cause { IfErr result (λ s. (s ≡ Stop.Memory) ⊎ ((s ≡ Stop.EvaluatorLimit) × IsFullFor self.old key)) }
     {
         if self.entries.contains_key(&key) {
+            self.look_ups.note(self.entries.get_index_of(&key));
             return Ok(());
         }
-        if self.entries.len() >= MAX_GOALS {
+        let place = self.entries.len();
+        if place >= MAX_GOALS {
             return Err(Stop::EvaluatorLimit);
         }
         self.entries.insert(key, new_slot())?;
+        self.look_ups.note(Some(place));
         Ok(())
     }
 
@@ -224,6 +231,40 @@ impl Goals {
     {
         self.entries.truncate(self.count);
         self.asks = asks;
+        self.look_ups.stop();
+    }
+
+    /// What goals look up is noted, until it is said anew whether goals are asked for. No goal is due yet.
+    pub(crate) fn note_look_ups(&mut self)
+        ensures { self.new ≡ self.old }
+    {
+        self.look_ups.start(self.count);
+    }
+
+    /// The goal of that place is computed from now on: it looks up what is noted.
+    pub(crate) fn set_reader(&mut self, place: usize)
+        ensures { self.new ≡ self.old }
+    {
+        self.look_ups.set_reader(place);
+    }
+
+    /// The goal was looked up, and nothing is known of it for sure.
+    pub(crate) fn note_look_up(&mut self, key: &GoalKey)
+        ensures { self.new ≡ self.old }
+    {
+        self.look_ups.note(self.entries.get_index_of(key));
+    }
+
+    /// Chooses which goals are due, and answers whether some are. Where none is, all goals are to be computed.
+    pub(crate) fn choose_due(&mut self) -> bool
+        ensures { self.new ≡ self.old }
+    {
+        self.look_ups.choose(&self.entries)
+    }
+
+    /// Whether the goal of that place is due.
+    pub(crate) fn is_due(&self, place: usize) -> bool {
+        self.look_ups.is_due(place)
     }
 
     /// Whether all stays as it is, where a round has this for the table: all of it is there, and no goal was asked for.

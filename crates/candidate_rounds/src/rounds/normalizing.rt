@@ -16,6 +16,7 @@ ghost use Rattle.candidate_rounds.specs.Evaluators.Inferences.{IsFullAt};
 ghost use Rattle.candidate_rounds.specs.Evaluators.Known.{GoesOn, listing, state, sure_of, table_of};
 ghost use Rattle.candidate_rounds.specs.Table.Entries.{new_entry};
 ghost use Rattle.candidate_rounds.specs.Table.Goals.{IsKeyOf, key_seen, verdict_seen};
+ghost use Rattle.candidate_rounds.specs.Table.Efforts.{IsEffort};
 ghost use Rattle.candidate_rounds.specs.Table.Normalized.{IsLeftAfter, IsNormalized, IsNormalizedAt, IsNotBegun, as_answer, proved_via};
 ghost use Rattle.candidate_rounds.specs.Table.Normalizing.{IsProjection, TakesAsTrait, goal_of_trait, rounds_shown, term_goal, trait_predicate, with_term};
 ghost use Rattle.candidate_rounds.specs.Table.Running.{StaysBesideTable};
@@ -28,6 +29,7 @@ ghost use Rattle.rounds_judge.specs.Table.GoalTable.{may_be_asked};
 ghost use Rattle.rounds_judge.specs.Table.Keys.{key_at, newest_of};
 
 use crate::rounds::Rounds;
+use crate::rounds::effort::Effort;
 use crate::rounds::goals::{GoalKey, Verdict};
 use crate::rounds::inference::Inference;
 use crate::rounds::keys::newest_of;
@@ -317,7 +319,7 @@ impl Rounds {
         }
     }
 
-    /// What type a projection is, in that many rounds at most: the goal of its trait is run, and where that isn't refused, the goal that the
+    /// What type a projection is, by that effort: the goal of its trait is run, and where that isn't refused, the goal that the
     /// projection is a new variable is computed under the table then left, in the way that the trait's verdict names. `None` says that there
     /// is no type, as far as the rules go.
     ///
@@ -336,20 +338,20 @@ impl Rounds {
         alloc: Global,
         param_env: ParamEnv,
         alias: AliasTy,
-        rounds: u16,
+        effort: Effort,
     ) -> Result<Option<CanonicalResponse>, Stop>
-        requires some { 0 < rounds }
+        requires some { IsEffort effort }
         requires projection { IsProjection self.old.context param_env alias }
         requires asked { may_be_asked (key_at (state self.old) (goal_of_trait self.old.context param_env alias)) ≡ true }
         ensures stays { StaysBesideTable self.old self.new }
         ensures sort { IfOk result (λ o. IfSome o (IsResponse self.new.context.trees)) }
-        ensures normalized { IsNormalized self.new.context.trees self.old param_env alias rounds (table_of self.new) result }
+        ensures normalized { IsNormalized self.new.context.trees self.old param_env alias effort (table_of self.new) result }
         ensures asked { self.new.goals.asked ≡ [] }
         ensures asks { self.new.goals.asks ≡ false }
         ensures derived { TableIsDerived self.new.context (listing self.new) (table_of self.new) }
     {
         let predicate = trait_predicate(&self.cx, alias);
-        let verdict = self.run(alloc, param_env, predicate, rounds)?;
+        let verdict = self.run_by(alloc, param_env, predicate, effort)?;
         let Some(way) = proved_via(&verdict) else {
             return Ok(None);
         };

@@ -6,6 +6,7 @@ ghost use Rattle.ir_trees.specs.declared.ir.stop.Stop.{Stop};
 ghost use Rattle.ir_trees.specs.Declarations.Context.{Grows};
 ghost use Rattle.ir_trees.specs.Declarations.References.{IsWellFormed};
 ghost use Rattle.candidate_eval.specs.Interface.Evaluators.{NoFault};
+ghost use Rattle.candidate_eval.specs.Judges.States.{is_some};
 ghost use Rattle.ir_trees.specs.Syntax.Trees.{Tree};
 ghost use Rattle.candidate_assembly.specs.Goals.Standing.{GoalIsValid};
 ghost use Rattle.candidate_assembly.specs.Answers.Backing.{AnswerIsBacked};
@@ -20,18 +21,20 @@ ghost use Rattle.candidate_rounds.specs.Evaluators.Interface.{fixed, judge_of};
 ghost use Rattle.candidate_rounds.specs.Calls.Starting.{started};
 ghost use Rattle.candidate_rounds.specs.Calls.Writing.{ChangeTableOf};
 ghost use Rattle.candidate_rounds.specs.Evaluators.Stopping.{IsGoalKeyStop, IsTreeStop, accounts, clause_saying};
-ghost use Rattle.candidate_rounds.specs.Table.Running.{AreWritten, IsAnswer, answered_as, IsComputingStop, IsDoneBelow, IsDerivedFor, IsEnteringStop, IsLeftStopped, IsPlaceOf, IsRoundStop, IsRunStop, IsWrittenAt, IsWrittenFor, PutsOffOneAtMost, StaysBesideTable, computing, told, verdict_at};
+ghost use Rattle.candidate_rounds.specs.Table.Running.{AreWritten, IsAnswer, answered_as, IsComputingStop, IsDoneBelow, IsDerivedFor, IsEnteringStop, IsLeftStopped, IsLeftUnsettled, IsPlaceOf, IsRoundStop, IsRunStop, IsWrittenAt, IsWrittenFor, PutsOffOneAtMost, StaysBesideTable, computing, told, verdict_at};
+ghost use Rattle.candidate_rounds.specs.Table.Efforts.{IsEffort, IsLeftBy, Runs};
 ghost use Rattle.candidate_rounds.specs.Table.Entries.{has_one, all_written_into, new_entry, write_verdict};
 ghost use Rattle.derivations.specs.DerivedTables.{TableIsDerived};
 ghost use Rattle.rounds_judge.specs.Table.GoalTable.{Entry, entered_in, is_entered, may_be_asked, may_be_read, most_goals, verdict_in};
 ghost use Rattle.rounds_judge.specs.Table.Keys.{Key, key_at, newest_of, numbers_at};
 ghost use Rattle.rounds_judge.specs.Table.Rounds as several;
-ghost use Rattle.rounds_judge.specs.Table.Rounds.{Changes, IsRound, IsRun};
+ghost use Rattle.rounds_judge.specs.Table.Rounds.{AnyEntry, Changes, IsAtRest, IsFinalEntry, IsRound, IsRun, IsSettled, IsStep, Settles, StepsWithin, most_steps};
 ghost use Rattle.rounds_judge.specs.Table.Verdicts.{is_final, verdict_of};
 ghost use Rattle.candidate_assembly.specs.Goals.KindShown.{IsGoal, trait_kind};
 ghost use Rattle.candidate_assembly.specs.Laws.Given.{IsCounted};
 
 use crate::rounds::Rounds;
+use crate::rounds::effort::Effort;
 use crate::rounds::goals::{GoalKey, MAX_GOALS, Slot, Verdict, new_slot};
 use crate::rounds::inference::Inference;
 use crate::rounds::keys::{Asked, may_be_asked, may_be_read, newest_of};
@@ -49,6 +52,9 @@ use ir_trees::ir::kinds::{Binder, Clause, ClauseKind, Goal, ParamEnv, TraitPredi
 use ir_trees::ir::stop::Stop;
 use ir_trees::ir::trees::Trees;
 use std::alloc::Global;
+
+/// As many steps as `run_settled` does at most.
+pub(crate) const MAX_STEPS: u16 = 65_535;
 
 /// What was known before a goal is computed, put aside meanwhile.
 #[derive(Drop)]
@@ -133,7 +139,7 @@ fn verdict_of(answer: Option<(CanonicalResponse, Option<TraitGoalProvenVia>)>) -
 }
 
 /// Whether it stays for good.
-fn is_final(verdict: &Option<Verdict>) -> bool
+pub(crate) fn is_final(verdict: &Option<Verdict>) -> bool
     ensures { (ts : List Tree) → result ≡ is_final (option_map (verdict_seen ts) verdict.now) }
 {
     match verdict {
@@ -304,25 +310,61 @@ impl Rounds {
         ensures stays { StaysBesideTable self.old self.new }
         ensures table { table_of self.new ≡ table_of self.old }
         ensures once { PutsOffOneAtMost self.old self.new }
-        ensures written { (e : Entry Via) → slice_get (table_of self.old) place ≡ Some e → IfOk result (λ w. IsWrittenAt self.new.context.trees (computing self.old) (table_of self.old) e w) }
+        ensures written { (e : Entry Via) → slice_get (table_of self.old) place ≡ Some e → IfOk result (λ w. IsWrittenAt IsFinalEntry self.new.context.trees (computing self.old) (table_of self.old) e w) }
         ensures cause { IfErr result (λ s. IsRoundStop self.new.context.trees self.old (table_of self.old) s) }
     {
         if self.is_final_at(place) {
             return Ok(None);
         }
+        self.set_reader(place);
         Ok(Some(self.computed(alloc, place)?))
+    }
+
+    /// The goal of that place is computed from now on: it looks up what is noted.
+    fn set_reader(&mut self, place: usize)
+        ensures { self.new ≡ self.old }
+    {
+        self.goals.set_reader(place);
     }
 
     /// What a round has for all places of the table.
     fn all_written(&mut self, alloc: Global) -> Result<Vec<Option<Written>>, Stop>
         ensures stays { StaysBesideTable self.old self.new }
         ensures table { table_of self.new ≡ table_of self.old }
-        ensures written { IfOk result (λ v. AreWritten self.new.context.trees (computing self.old) (table_of self.old) (table_of self.old) v.items) }
+        ensures written { IfOk result (λ v. AreWritten IsFinalEntry self.new.context.trees (computing self.old) (table_of self.old) (table_of self.old) v.items) }
         ensures cause { IfErr result (λ s. IsRoundStop self.new.context.trees self.old (table_of self.old) s) }
     {
         let mut list = Vec::new(alloc);
         for place in 0..self.goals.len() {
             list.push(self.written_at(alloc, place)?)?;
+        }
+        Ok(list)
+    }
+
+    /// What a step has for that place: nothing where its goal isn't due, or what is there stays for good.
+    fn due_written_at(&mut self, alloc: Global, place: usize) -> Result<Option<Written>, Stop>
+        requires { place < length self.old.goals.table }
+        ensures stays { StaysBesideTable self.old self.new }
+        ensures table { table_of self.new ≡ table_of self.old }
+        ensures written { (e : Entry Via) → slice_get (table_of self.old) place ≡ Some e → IfOk result (λ w. IsWrittenAt AnyEntry self.new.context.trees (computing self.old) (table_of self.old) e w) }
+        ensures cause { IfErr result (λ s. IsRoundStop self.new.context.trees self.old (table_of self.old) s) }
+    {
+        if !self.goals.is_due(place) {
+            return Ok(None);
+        }
+        self.written_at(alloc, place)
+    }
+
+    /// What a step has for all places of the table.
+    fn due_written(&mut self, alloc: Global) -> Result<Vec<Option<Written>>, Stop>
+        ensures stays { StaysBesideTable self.old self.new }
+        ensures table { table_of self.new ≡ table_of self.old }
+        ensures written { IfOk result (λ v. AreWritten AnyEntry self.new.context.trees (computing self.old) (table_of self.old) (table_of self.old) v.items) }
+        ensures cause { IfErr result (λ s. IsRoundStop self.new.context.trees self.old (table_of self.old) s) }
+    {
+        let mut list = Vec::new(alloc);
+        for place in 0..self.goals.len() {
+            list.push(self.due_written_at(alloc, place)?)?;
         }
         Ok(list)
     }
@@ -368,6 +410,57 @@ impl Rounds {
         let is_still = self.is_still(written.as_slice());
         self.goals.write(written);
         Ok(Rounded { verdict, is_still })
+    }
+
+    /// One step: the goals that are due are computed, and then what they came to is written. Where it stops the table stays as it was.
+    fn step_of_due(&mut self, alloc: Global) -> Result<(), Stop>
+        ensures stays { StaysBesideTable self.old self.new }
+        ensures step { OnOk result (IsStep (computing self.old) (table_of self.old) (table_of self.new)) }
+        ensures stopped { OnErr result (table_of self.new ≡ table_of self.old) }
+        ensures cause { IfErr result (λ s. IsRoundStop self.new.context.trees self.old (table_of self.old) s) }
+    {
+        self.recall_well_kept();
+        self.recall_trees_fit();
+        let written = self.due_written(alloc)?;
+        self.goals.write(written);
+        Ok(())
+    }
+
+    /// What goals look up is noted, until it is said anew whether goals are asked for. No goal is due yet.
+    fn note_look_ups(&mut self)
+        ensures { self.new ≡ self.old }
+    {
+        self.goals.note_look_ups();
+    }
+
+    /// Chooses which goals are due, and answers whether some are.
+    fn choose_due(&mut self) -> bool
+        ensures { self.new ≡ self.old }
+    {
+        self.goals.choose_due()
+    }
+
+    /// One step of the goals that are due, or one round of all where none is. It answers whether that is the last: the goal of that place
+    /// is final by it, or the round left the table as it was. Where it stops the table stays as it was.
+    fn next_step(&mut self, alloc: Global, place: usize) -> Result<bool, Stop>
+        requires place { place < length self.old.goals.table }
+        requires open { is_final (verdict_at (table_of self.old) place) ≡ false }
+        ensures stays { StaysBesideTable self.old self.new }
+        ensures step { OnOk result (IsStep (computing self.old) (table_of self.old) (table_of self.new)) }
+        ensures last { IfOk result (λ b. IsTrue b → (k : Key) → IsPlaceOf (table_of self.new) k place → IsAtRest (computing self.old) k (table_of self.new)) }
+        ensures open { IfOk result (λ b. IsFalse b → is_final (verdict_at (table_of self.new) place) ≡ false) }
+        ensures stopped { OnErr result (table_of self.new ≡ table_of self.old) }
+        ensures cause { IfErr result (λ s. IsRoundStop self.new.context.trees self.old (table_of self.old) s) }
+    {
+        if self.choose_due() {
+            self.step_of_due(alloc)?;
+            return Ok(self.is_final_at(place));
+        }
+        let whole = self.round(alloc, place)?;
+        if whole.is_still {
+            return Ok(true);
+        }
+        Ok(self.is_final_at(place))
     }
 
     /// Enters a goal that isn't there, with what is known of it, after all others, and answers its place. `Stop::EvaluatorLimit` comes where
@@ -500,7 +593,7 @@ impl Rounds {
     /// A copy of what is written for that place, where something is.
     fn verdict_at(&self, place: usize) -> Result<Verdict, Stop>
         requires place { place < length self.now.goals.table }
-        requires is_final { is_final (verdict_at (table_of self.now) place) ≡ true }
+        requires some { is_some (verdict_at (table_of self.now) place) ≡ true }
         ensures sort { IfOk result (λ v. IsVerdict self.now.context.trees (Some v)) }
         ensures is { IfOk result (λ v. verdict_at (table_of self.now) place ≡ Some (verdict_seen self.now.context.trees v)) }
         ensures cause { IfErr result (λ s. s ≡ Stop.Memory) }
@@ -538,6 +631,36 @@ impl Rounds {
         }
         let left = self.round(alloc, place)?;
         Ok(left.verdict)
+    }
+
+    /// Steps until the goal of that place is final or the table is still, but 65,535 at most. The first one is a round of all goals, and so is
+    /// each one before which no goal is due.
+    fn settle_table(&mut self, alloc: Global, place: usize) -> Result<Verdict, Stop>
+        requires place { place < length self.old.goals.table }
+        requires asks { self.old.goals.asks ≡ true }
+        ensures stays { StaysBesideTable self.old self.new }
+        ensures settled { OnOk result ((k : Key) → IsPlaceOf (table_of self.old) k place → Settles (computing self.old) k most_steps (table_of self.old) (table_of self.new)) }
+        ensures sort { IfOk result (λ v. IsVerdict self.new.context.trees (Some v)) }
+        ensures answer { IfOk result (λ v. verdict_at (table_of self.new) place ≡ Some (verdict_seen self.new.context.trees v)) }
+        ensures stopped { OnErr result ((k : Key) → IsPlaceOf (table_of self.old) k place → StepsWithin (computing self.old) k most_steps (table_of self.old) (table_of self.new)) }
+        ensures cause { IfErr result (λ s. IsRoundStop self.new.context.trees self.old (table_of self.new) s) }
+    {
+        if self.is_final_at(place) {
+            return self.verdict_at(place);
+        }
+        let first = self.round(alloc, place)?;
+        if first.is_still {
+            return Ok(first.verdict);
+        }
+        if self.is_final_at(place) {
+            return Ok(first.verdict);
+        }
+        for _next in 1..MAX_STEPS {
+            if self.next_step(alloc, place)? {
+                return self.verdict_at(place);
+            }
+        }
+        self.verdict_at(place)
     }
 
     /// Rounds for a goal, which is entered in the table if it isn't there, until it is final, but so many at most. It answers what is
@@ -580,6 +703,74 @@ impl Rounds {
         self.set_asking(false);
         self.recall_well_kept();
         answer
+    }
+
+    /// Computes goals until the goal is final or no further round changes the table, but in 65,535 steps at most. The goal is entered in the
+    /// table if it isn't there. It answers what is written for the goal then.
+    ///
+    /// A step computes some goals of the table that aren't final, and else does what a round of `run` does. Its goals are those that were
+    /// first asked for in the last step, and those that looked up a goal which the last step made final. Where there are none, all goals
+    /// that aren't final are computed: if that leaves the table as it was, it was the last step. So a goal that waits for another one isn't
+    /// computed again before that one is final. For example a chain of 400 goals takes some 800 computations here, and 80,000 in `run`.
+    ///
+    /// Where it stops the table is that of the last whole step, with the goal, if it was entered. What is known, what is pending and the
+    /// open probes stay in each case. It stops as `run` does.
+    pub fn run_settled(
+        &mut self,
+        alloc: Global,
+        param_env: ParamEnv,
+        predicate: TraitPredicate,
+    ) -> Result<Verdict, Stop>
+        requires goal { IsGoal trait_kind self.old.context param_env predicate }
+        requires asked { may_be_asked (key_at (state self.old) (trait_goal self.old.context.trees param_env predicate)) ≡ true }
+        ensures stays { StaysBesideTable self.old self.new }
+        ensures settled { OnOk result (IsSettled (computing self.old) (key_at (state self.old) (trait_goal self.old.context.trees param_env predicate)) most_steps (table_of self.old) (table_of self.new)) }
+        ensures sort { IfOk result (λ v. IsVerdict self.new.context.trees (Some v)) }
+        ensures answer { IfOk result (λ v. verdict_in (table_of self.new) (key_at (state self.old) (trait_goal self.old.context.trees param_env predicate)) ≡ Some (verdict_seen self.new.context.trees v)) }
+        ensures stopped { let g = trait_goal self.old.context.trees param_env predicate in IfErr result (λ s. IsLeftUnsettled self.new.context.trees self.old g (table_of self.old) (table_of self.new) s) }
+        ensures asked { self.new.goals.asked ≡ [] }
+        ensures asks { self.new.goals.asks ≡ false }
+        ensures derived { TableIsDerived self.new.context (listing self.new) (table_of self.new) }
+        ensures yes { IfOk result (λ v. IsDerivedFor self.new (key_at (state self.old) (trait_goal self.old.context.trees param_env predicate)) (Some v)) }
+        ensures cause { IfErr result (λ s. IsRunStop self.new.context.trees self.old (trait_goal self.old.context.trees param_env predicate) (table_of self.new) s) }
+    {
+        self.recall_well_kept();
+        self.set_asking(false);
+        let place = self.enter_goal(alloc, param_env, predicate)?;
+        self.set_asking(true);
+        self.note_look_ups();
+        let answer = self.settle_table(alloc, place);
+        self.set_asking(false);
+        self.recall_well_kept();
+        answer
+    }
+
+    /// The same as `run` or `run_settled` does, by the effort. It stops as they do.
+    pub fn run_by(
+        &mut self,
+        alloc: Global,
+        param_env: ParamEnv,
+        predicate: TraitPredicate,
+        effort: Effort,
+    ) -> Result<Verdict, Stop>
+        requires some { IsEffort effort }
+        requires goal { IsGoal trait_kind self.old.context param_env predicate }
+        requires asked { may_be_asked (key_at (state self.old) (trait_goal self.old.context.trees param_env predicate)) ≡ true }
+        ensures stays { StaysBesideTable self.old self.new }
+        ensures ran { OnOk result (Runs (computing self.old) (key_at (state self.old) (trait_goal self.old.context.trees param_env predicate)) effort (table_of self.old) (table_of self.new)) }
+        ensures sort { IfOk result (λ v. IsVerdict self.new.context.trees (Some v)) }
+        ensures answer { IfOk result (λ v. verdict_in (table_of self.new) (key_at (state self.old) (trait_goal self.old.context.trees param_env predicate)) ≡ Some (verdict_seen self.new.context.trees v)) }
+        ensures stopped { let g = trait_goal self.old.context.trees param_env predicate in IfErr result (λ s. IsLeftBy self.new.context.trees self.old g effort (table_of self.old) (table_of self.new) s) }
+        ensures asked { self.new.goals.asked ≡ [] }
+        ensures asks { self.new.goals.asks ≡ false }
+        ensures derived { TableIsDerived self.new.context (listing self.new) (table_of self.new) }
+        ensures yes { IfOk result (λ v. IsDerivedFor self.new (key_at (state self.old) (trait_goal self.old.context.trees param_env predicate)) (Some v)) }
+        ensures cause { IfErr result (λ s. IsRunStop self.new.context.trees self.old (trait_goal self.old.context.trees param_env predicate) (table_of self.new) s) }
+    {
+        match effort {
+            Effort::Rounds(rounds) => self.run(alloc, param_env, predicate, rounds),
+            Effort::AsNeeded => self.run_settled(alloc, param_env, predicate),
+        }
     }
 
     /// Whether the goal may be run: with all values put in its trees are closed trees of variables, without parameters. Each goal that

@@ -103,6 +103,13 @@ impl Rounds {
         self.goals.ask(key)
     }
 
+    /// The goal of that key was looked up, and nothing is known of it for sure.
+    pub(crate) fn note_look_up(&mut self, key: &GoalKey)
+        ensures { self.new ≡ self.old }
+    {
+        self.goals.note_look_up(key);
+    }
+
     /// A copy of what the Yes of that place says of the key. The only stop is `Stop::Memory`.
     pub(crate) fn yes_at(&self, key: &GoalKey, place: usize) -> Result<CanonicalResponse, Stop>
         requires { IsYesAt self.now.context.trees self.now.goals.table (key_seen self.now.context.trees key.now) place }

@@ -1,5 +1,5 @@
 -- Worked cases of a table of goals, by computation.
-use Rattle.std.proofs.Common.{◌≡◌, ◌<◌, ◌≤◌, ℕ, zero, suc, ◌==◌, Bool, true, false, refl, ap, subst, arith, List, [], ◌∷◌, Option, Some, None, if◌then◌else◌}
+use Rattle.std.proofs.Common.{◌≡◌, ◌<◌, ◌≤◌, inl, inr, ℕ, zero, suc, ◌==◌, Bool, true, false, refl, ap, subst, arith, List, [], ◌∷◌, Option, Some, None, if◌then◌else◌}
 use Rattle.ir_trees.specs.declared.ir.heads.Head.{Head}
 use Rattle.ir_trees.specs.declared.ir.heads.Head.TheVariants as H
 use Rattle.ir_trees.specs.declared.ir.heads.Builtin.TheVariants as B
@@ -41,8 +41,9 @@ use Rattle.rounds_judge.specs.Table.Verdicts.{Verdict, Yes, Maybe, Refused, Answ
 use Rattle.rounds_judge.specs.Table.GoalTable.{Entry, GoalTable, unanswered, well_entered}
 use Rattle.rounds_judge.specs.Table.TableSettling.{greatest_said, lift_to, lifted, with_universes, settled_with, responded_with}
 use Rattle.rounds_judge.specs.Table.TableGranted.{IsGrantedWith}
-use Rattle.rounds_judge.specs.Table.Rounds.{PureFolder, Changes, nothing, stays, computed, IsRound, IsStill, used_up, enough, still, round, IsRun}
+use Rattle.rounds_judge.specs.Table.Rounds.{PureFolder, Changes, nothing, stays, computed, IsRound, IsSettled, IsStep, IsStill, most_steps, no_step, one_more, used_up, enough, still, round, IsRun}
 use Rattle.rounds_judge.proofs.States.Marks.{whole}
+use Rattle.rounds_judge.proofs.Table.RoundLaws.{round_is_step}
 
 -- an alias that isn't listed is rigid
 abbrev rigid : List (Tree × Tree) → Listing
@@ -291,6 +292,40 @@ unchanged = record {
 -- however many there may be, the second is the last
 stuck : IsRun small (of_u8 3) 65535 (unanswered (of_u8 3) ∷ unanswered (of_u8 4) ∷ []) (unsure 3 ∷ unsure 4 ∷ [])
 stuck = round refl each_other (changes_at 0 _ _ still_unsure) (still refl unchanged)
+
+-- Steps compute the goals alone that may come to something else: here those that read what became final. The others stay as they are.
+
+second_step : IsStep small (sure 0 ∷ unsure 1 ∷ unsure 2 ∷ []) (sure 0 ∷ sure 1 ∷ unsure 2 ∷ [])
+second_step = record {
+  written = sure 0 ∷ sure 1 ∷ unsure 2 ∷ [];
+  writes = stays (sure 0) tt (computed (unsure 1) (left C.Yes) refl refl (stays (unsure 2) tt nothing));
+  asked = [];
+  are_new = tt;
+  is = refl;
+}
+
+third_step : IsStep small (sure 0 ∷ sure 1 ∷ unsure 2 ∷ []) (sure 0 ∷ sure 1 ∷ sure 2 ∷ [])
+third_step = record {
+  written = sure 0 ∷ sure 1 ∷ sure 2 ∷ [];
+  writes = stays (sure 0) tt (stays (sure 1) tt (computed (unsure 2) (left C.Yes) refl refl nothing));
+  asked = [];
+  are_new = tt;
+  is = refl;
+}
+
+-- the goal is final
+settled : IsSettled small (of_u8 2) most_steps three (sure 0 ∷ sure 1 ∷ sure 2 ∷ [])
+settled = record {
+  done = record { count = 3; within = omega arith; steps = one_more (one_more (one_more no_step refl (round_is_step first_round)) refl second_step) refl third_step };
+  ends = λ l. inl refl;
+}
+
+-- a round of all goals would leave the table as it is
+settled_open : IsSettled small (of_u8 3) most_steps (unanswered (of_u8 3) ∷ unanswered (of_u8 4) ∷ []) (unsure 3 ∷ unsure 4 ∷ [])
+settled_open = record {
+  done = record { count = 1; within = omega arith; steps = one_more no_step refl (round_is_step each_other) };
+  ends = λ l. inr unchanged;
+}
 
 -- A refusal is final, and so is a value.
 

@@ -4,6 +4,7 @@
 
 
 use kit::{eprintln, format, prelude::*, print, println, vec};
+use crate::rounds::due::LookUps;
 use crate::rounds::writing::{Written, are_there, put_all_in};
 use candidate_assembly::assembly::merging::TraitGoalProvenVia;
 use candidate_eval::eval::response::CanonicalResponse;
@@ -94,6 +95,8 @@ pub(crate) struct Goals {
     count: usize,
     /// Whether a round is being done: it asks for goals that the table doesn't have.
     pub asks: bool,
+    /// What goals looked up while they were computed. It is no part of the view.
+    look_ups: LookUps,
 }
 
 impl Model for Goals {
@@ -123,6 +126,7 @@ impl Goals {
             entries: IndexMap::new(alloc),
             count: 0,
             asks: false,
+            look_ups: LookUps::new(alloc),
         }
     }
 
@@ -169,12 +173,15 @@ impl Goals {
     pub(crate) fn ask(&mut self, key: GoalKey) -> Result<(), Stop>
     {
         if self.entries.contains_key(&key) {
+            self.look_ups.note(self.entries.get_index_of(&key));
             return Ok(());
         }
-        if self.entries.len() >= MAX_GOALS {
+        let place = self.entries.len();
+        if place >= MAX_GOALS {
             return Err(Stop::EvaluatorLimit);
         }
         self.entries.insert(key, new_slot())?;
+        self.look_ups.note(Some(place));
         Ok(())
     }
 
@@ -183,6 +190,36 @@ impl Goals {
     {
         self.entries.truncate(self.count);
         self.asks = asks;
+        self.look_ups.stop();
+    }
+
+    /// What goals look up is noted, until it is said anew whether goals are asked for. No goal is due yet.
+    pub(crate) fn note_look_ups(&mut self)
+    {
+        self.look_ups.start(self.count);
+    }
+
+    /// The goal of that place is computed from now on: it looks up what is noted.
+    pub(crate) fn set_reader(&mut self, place: usize)
+    {
+        self.look_ups.set_reader(place);
+    }
+
+    /// The goal was looked up, and nothing is known of it for sure.
+    pub(crate) fn note_look_up(&mut self, key: &GoalKey)
+    {
+        self.look_ups.note(self.entries.get_index_of(key));
+    }
+
+    /// Chooses which goals are due, and answers whether some are. Where none is, all goals are to be computed.
+    pub(crate) fn choose_due(&mut self) -> bool
+    {
+        self.look_ups.choose(&self.entries)
+    }
+
+    /// Whether the goal of that place is due.
+    pub(crate) fn is_due(&self, place: usize) -> bool {
+        self.look_ups.is_due(place)
     }
 
     /// Whether all stays as it is, where a round has this for the table: all of it is there, and no goal was asked for.

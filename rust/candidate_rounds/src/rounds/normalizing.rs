@@ -5,6 +5,7 @@
 
 use kit::{eprintln, format, prelude::*, print, println, vec};
 use crate::rounds::Rounds;
+use crate::rounds::effort::Effort;
 use crate::rounds::goals::{GoalKey, Verdict};
 use crate::rounds::inference::Inference;
 use crate::rounds::keys::newest_of;
@@ -221,7 +222,7 @@ impl Rounds {
         }
     }
 
-    /// What type a projection is, in that many rounds at most: the goal of its trait is run, and where that isn't refused, the goal that the
+    /// What type a projection is, by that effort: the goal of its trait is run, and where that isn't refused, the goal that the
     /// projection is a new variable is computed under the table then left, in the way that the trait's verdict names. `None` says that there
     /// is no type, as far as the rules go.
     ///
@@ -240,11 +241,11 @@ impl Rounds {
         alloc: Global,
         param_env: ParamEnv,
         alias: AliasTy,
-        rounds: u16,
+        effort: Effort,
     ) -> Result<Option<CanonicalResponse>, Stop>
     {
         let predicate = trait_predicate(&self.cx, alias);
-        let verdict = self.run(alloc, param_env, predicate, rounds)?;
+        let verdict = self.run_by(alloc, param_env, predicate, effort)?;
         let Some(way) = proved_via(&verdict) else {
             return Ok(None);
         };

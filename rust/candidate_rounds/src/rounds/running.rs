@@ -5,6 +5,7 @@
 
 use kit::{eprintln, format, prelude::*, print, println, vec};
 use crate::rounds::Rounds;
+use crate::rounds::effort::Effort;
 use crate::rounds::goals::{GoalKey, MAX_GOALS, Slot, Verdict, new_slot};
 use crate::rounds::inference::Inference;
 use crate::rounds::keys::{Asked, may_be_asked, may_be_read, newest_of};
@@ -22,6 +23,9 @@ use ir_trees::ir::kinds::{Binder, Clause, ClauseKind, Goal, ParamEnv, TraitPredi
 use ir_trees::ir::stop::Stop;
 use ir_trees::ir::trees::Trees;
 use kit::alloc::Global;
+
+/// As many steps as `run_settled` does at most.
+pub(crate) const MAX_STEPS: u16 = 65_535;
 
 /// What was known before a goal is computed, put aside meanwhile.
 #[derive(Debug)]
@@ -95,7 +99,7 @@ fn verdict_of(answer: Option<(CanonicalResponse, Option<TraitGoalProvenVia>)>) -
 }
 
 /// Whether it stays for good.
-fn is_final(verdict: &Option<Verdict>) -> bool
+pub(crate) fn is_final(verdict: &Option<Verdict>) -> bool
 {
     match verdict {
         Some(Verdict::Yes(_, _) | Verdict::Refused) => true,
@@ -222,7 +226,14 @@ impl Rounds {
         if self.is_final_at(place) {
             return Ok(None);
         }
+        self.set_reader(place);
         Ok(Some(self.computed(alloc, place)?))
+    }
+
+    /// The goal of that place is computed from now on: it looks up what is noted.
+    fn set_reader(&mut self, place: usize)
+    {
+        self.goals.set_reader(place);
     }
 
     /// What a round has for all places of the table.
@@ -231,6 +242,25 @@ impl Rounds {
         let mut list = Vec::new(alloc);
         for place in 0..self.goals.len() {
             list.push(self.written_at(alloc, place)?)?;
+        }
+        Ok(list)
+    }
+
+    /// What a step has for that place: nothing where its goal isn't due, or what is there stays for good.
+    fn due_written_at(&mut self, alloc: Global, place: usize) -> Result<Option<Written>, Stop>
+    {
+        if !self.goals.is_due(place) {
+            return Ok(None);
+        }
+        self.written_at(alloc, place)
+    }
+
+    /// What a step has for all places of the table.
+    fn due_written(&mut self, alloc: Global) -> Result<Vec<Option<Written>>, Stop>
+    {
+        let mut list = Vec::new(alloc);
+        for place in 0..self.goals.len() {
+            list.push(self.due_written_at(alloc, place)?)?;
         }
         Ok(list)
     }
@@ -261,6 +291,43 @@ impl Rounds {
         let is_still = self.is_still(written.as_slice());
         self.goals.write(written);
         Ok(Rounded { verdict, is_still })
+    }
+
+    /// One step: the goals that are due are computed, and then what they came to is written. Where it stops the table stays as it was.
+    fn step_of_due(&mut self, alloc: Global) -> Result<(), Stop>
+    {
+        self.recall_well_kept();
+        self.recall_trees_fit();
+        let written = self.due_written(alloc)?;
+        self.goals.write(written);
+        Ok(())
+    }
+
+    /// What goals look up is noted, until it is said anew whether goals are asked for. No goal is due yet.
+    fn note_look_ups(&mut self)
+    {
+        self.goals.note_look_ups();
+    }
+
+    /// Chooses which goals are due, and answers whether some are.
+    fn choose_due(&mut self) -> bool
+    {
+        self.goals.choose_due()
+    }
+
+    /// One step of the goals that are due, or one round of all where none is. It answers whether that is the last: the goal of that place
+    /// is final by it, or the round left the table as it was. Where it stops the table stays as it was.
+    fn next_step(&mut self, alloc: Global, place: usize) -> Result<bool, Stop>
+    {
+        if self.choose_due() {
+            self.step_of_due(alloc)?;
+            return Ok(self.is_final_at(place));
+        }
+        let whole = self.round(alloc, place)?;
+        if whole.is_still {
+            return Ok(true);
+        }
+        Ok(self.is_final_at(place))
     }
 
     /// Enters a goal that isn't there, with what is known of it, after all others, and answers its place. `Stop::EvaluatorLimit` comes where
@@ -371,6 +438,28 @@ impl Rounds {
         Ok(left.verdict)
     }
 
+    /// Steps until the goal of that place is final or the table is still, but 65,535 at most. The first one is a round of all goals, and so is
+    /// each one before which no goal is due.
+    fn settle_table(&mut self, alloc: Global, place: usize) -> Result<Verdict, Stop>
+    {
+        if self.is_final_at(place) {
+            return self.verdict_at(place);
+        }
+        let first = self.round(alloc, place)?;
+        if first.is_still {
+            return Ok(first.verdict);
+        }
+        if self.is_final_at(place) {
+            return Ok(first.verdict);
+        }
+        for _next in 1..MAX_STEPS {
+            if self.next_step(alloc, place)? {
+                return self.verdict_at(place);
+            }
+        }
+        self.verdict_at(place)
+    }
+
     /// Rounds for a goal, which is entered in the table if it isn't there, until it is final, but so many at most. It answers what is
     /// written for the goal then.
     ///
@@ -400,6 +489,53 @@ impl Rounds {
         self.set_asking(false);
         self.recall_well_kept();
         answer
+    }
+
+    /// Computes goals until the goal is final or no further round changes the table, but in 65,535 steps at most. The goal is entered in the
+    /// table if it isn't there. It answers what is written for the goal then.
+    ///
+    /// A step computes some goals of the table that aren't final, and else does what a round of `run` does. Its goals are those that were
+    /// first asked for in the last step, and those that looked up a goal which the last step made final. Where there are none, all goals
+    /// that aren't final are computed: if that leaves the table as it was, it was the last step. So a goal that waits for another one isn't
+    /// computed again before that one is final. For example a chain of 400 goals takes some 800 computations here, and 80,000 in `run`.
+    ///
+    /// Where it stops the table is that of the last whole step, with the goal, if it was entered. What is known, what is pending and the
+    /// open probes stay in each case. It stops as `run` does.
+    pub fn run_settled(
+        &mut self,
+        alloc: Global,
+        param_env: ParamEnv,
+        predicate: TraitPredicate,
+    ) -> Result<Verdict, Stop>
+    {
+        debug_assert!(ir_trees::checks::is_sorted(ir_context::decl::make::Make::cx(&*self), param_env), "candidate_rounds::rounds::running::Rounds::run_settled: `param_env` is {:?}, no number of its sort in this context", param_env);
+        debug_assert!(ir_trees::checks::is_sorted(ir_context::decl::make::Make::cx(&*self), predicate.trait_ref.args), "candidate_rounds::rounds::running::Rounds::run_settled: `predicate.trait_ref.args` is {:?}, no number of its sort in this context", predicate.trait_ref.args);
+        self.recall_well_kept();
+        self.set_asking(false);
+        let place = self.enter_goal(alloc, param_env, predicate)?;
+        self.set_asking(true);
+        self.note_look_ups();
+        let answer = self.settle_table(alloc, place);
+        self.set_asking(false);
+        self.recall_well_kept();
+        answer
+    }
+
+    /// The same as `run` or `run_settled` does, by the effort. It stops as they do.
+    pub fn run_by(
+        &mut self,
+        alloc: Global,
+        param_env: ParamEnv,
+        predicate: TraitPredicate,
+        effort: Effort,
+    ) -> Result<Verdict, Stop>
+    {
+        debug_assert!(ir_trees::checks::is_sorted(ir_context::decl::make::Make::cx(&*self), param_env), "candidate_rounds::rounds::running::Rounds::run_by: `param_env` is {:?}, no number of its sort in this context", param_env);
+        debug_assert!(ir_trees::checks::is_sorted(ir_context::decl::make::Make::cx(&*self), predicate.trait_ref.args), "candidate_rounds::rounds::running::Rounds::run_by: `predicate.trait_ref.args` is {:?}, no number of its sort in this context", predicate.trait_ref.args);
+        match effort {
+            Effort::Rounds(rounds) => self.run(alloc, param_env, predicate, rounds),
+            Effort::AsNeeded => self.run_settled(alloc, param_env, predicate),
+        }
     }
 
     /// Whether the goal may be run: with all values put in its trees are closed trees of variables, without parameters. Each goal that

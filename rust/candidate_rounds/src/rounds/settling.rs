@@ -184,7 +184,10 @@ impl Rounds {
                 self.request(alloc, asked.key)?;
                 Ok(false)
             }
-            Found::Open => Ok(false),
+            Found::Open => {
+                self.note_look_up(&asked.key);
+                Ok(false)
+            }
             Found::Refused => Err(NoSolutionOrStop::NoSolution),
             Found::Yes(place) => {
                 let leaks = self.leaks_at(place);

@@ -80,6 +80,12 @@ impl Rounds {
         self.goals.ask(key)
     }
 
+    /// The goal of that key was looked up, and nothing is known of it for sure.
+    pub(crate) fn note_look_up(&mut self, key: &GoalKey)
+    {
+        self.goals.note_look_up(key);
+    }
+
     /// A copy of what the Yes of that place says of the key. The only stop is `Stop::Memory`.
     pub(crate) fn yes_at(&self, key: &GoalKey, place: usize) -> Result<CanonicalResponse, Stop>
     {

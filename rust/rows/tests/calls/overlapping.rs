@@ -11,6 +11,7 @@ use candidate_ir::ir::kinds::{
     TraitRef, Ty, TyKind, UintTy, VarKind,
 };
 use candidate_ir::ir::stop::Stop;
+use candidate_rounds::rounds::effort::Effort;
 use candidate_rounds::rounds::Rounds;
 use kit::alloc::Global;
 use kit::prelude::*;
@@ -129,6 +130,7 @@ fn instance(
     Ok(Overlap::May(CommonInstance {
         trait_ref,
         is_certain,
+        leaks: false,
     }))
 }
 
@@ -167,7 +169,7 @@ fn overlap_and_wanted(
     def_id: TraitId,
     want: Want,
 ) -> Result<(Overlap, Overlap), Stop> {
-    let overlap = impls_overlap(alloc, rounds, first, second, 4)?;
+    let overlap = impls_overlap(alloc, rounds, first, second, Effort::Rounds(4))?;
     let wanted = wanted(rounds, def_id, want)?;
     Ok((overlap, wanted))
 }

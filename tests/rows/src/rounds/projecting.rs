@@ -6,6 +6,7 @@ use crate::notation::answers::Answer;
 use crate::notation::refusals::Refusal;
 use crate::notation::rows::Row;
 use crate::notation::typed::{env_at, ty_at};
+use crate::rounds::tabling::effort_of;
 use candidate_eval::eval::refusal::NoSolutionOrStop;
 use candidate_ir::decl::context::Cx;
 use candidate_ir::decl::make::Make;
@@ -38,7 +39,7 @@ fn projection_at(cx: &Cx, env: u32, ty: u32) -> Result<(ParamEnv, AliasTy), Refu
     Ok((env, alias))
 }
 
-/// What the projection comes to in as many rounds as the row says. `Refusal::Condition` comes where that is no number above 0, and where
+/// What the projection comes to in as many rounds as the row says, or as long as needed. `Refusal::Condition` comes where it says neither, and where
 /// its trait's goal may not be run.
 pub(crate) fn answer(
     alloc: Global,
@@ -48,10 +49,10 @@ pub(crate) fn answer(
 ) -> Result<Answer, Refusal> {
     let (env, alias) = projection_at(rounds.cx(), of.left, of.right)?;
     let predicate = trait_predicate(rounds.cx(), alias);
-    let count = row.first.parse::<u16>().unwrap_or(0);
-    if count == 0 || !rounds.may_be_run(alloc, env, predicate)? {
+    let effort = effort_of(row.first).ok_or(Refusal::Condition)?;
+    if !rounds.may_be_run(alloc, env, predicate)? {
         return Err(Refusal::Condition);
     }
-    let answer = rounds.normalize(alloc, env, alias, count)?;
+    let answer = rounds.normalize(alloc, env, alias, effort)?;
     responded(alloc, answer.ok_or(NoSolutionOrStop::NoSolution))
 }

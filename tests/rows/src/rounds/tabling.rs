@@ -9,6 +9,7 @@ use crate::notation::rows::Row;
 use candidate_eval::eval::refusal::NoSolutionOrStop;
 use candidate_ir::decl::make::Make;
 use candidate_ir::ir::kinds::{ParamEnv, TraitPredicate};
+use candidate_rounds::rounds::effort::Effort;
 use candidate_rounds::rounds::goals::Verdict;
 use candidate_rounds::rounds::Rounds;
 use kit::alloc::Global;
@@ -23,8 +24,17 @@ fn said(alloc: Global, verdict: Verdict) -> Result<Answer, Refusal> {
     proved(alloc, outcome)
 }
 
-/// Runs the goal for as many rounds as the row says. `Refusal::Condition` comes where that is no number above 0, and where the goal may
-/// not be run.
+/// How long a goal is computed: as long as needed by `*`, and else in as many rounds as the word says, if that is a number above 0.
+pub(crate) fn effort_of(word: &str) -> Option<Effort> {
+    match word.parse::<u16>() {
+        Ok(0) => None,
+        Ok(count) => Some(Effort::Rounds(count)),
+        Err(_) => (word == "*").then_some(Effort::AsNeeded),
+    }
+}
+
+/// Runs the goal for as many rounds as the row says, or as long as needed. `Refusal::Condition` comes where it says neither, and where the
+/// goal may not be run.
 fn run(
     alloc: Global,
     rounds: &mut Rounds,
@@ -32,11 +42,15 @@ fn run(
     env: ParamEnv,
     predicate: TraitPredicate,
 ) -> Result<Answer, Refusal> {
-    let count = row.first.parse::<u16>().unwrap_or(0);
-    if count == 0 || !rounds.may_be_run(alloc, env, predicate)? {
+    let effort = effort_of(row.first).ok_or(Refusal::Condition)?;
+    if !rounds.may_be_run(alloc, env, predicate)? {
         return Err(Refusal::Condition);
     }
-    said(alloc, rounds.run(alloc, env, predicate, count)?)
+    let verdict = match effort {
+        Effort::Rounds(count) => rounds.run(alloc, env, predicate, count)?,
+        Effort::AsNeeded => rounds.run_settled(alloc, env, predicate)?,
+    };
+    said(alloc, verdict)
 }
 
 /// What the table has of the goal.

@@ -20,6 +20,6 @@ returns-in-Ok-clause-comes c =
     let cx = c.args.cx in
     let given = c.args.given.now in
     let p = c.args.predicate in
-    let count = c.args.count in
-    let solved : IsSolvedBefore cx given p count c.explain_run-cx.result.0 c.in-Ok.explained.verdict = search rules in
-    on-answer c.with_rounds.result.1 (λ e h. (solved.0, subst (IsSolved cx given p count solved.0) (sym h) solved.1, grows-trans _ _ _ solved.2 c.with_rounds.ensures.grows)) c.with_rounds.ensures.verdict
+    let effort = c.args.effort in
+    let solved : IsSolvedBefore cx given p effort c.explain_run-cx.result.0 c.in-Ok.explained.verdict = search rules in
+    on-answer c.with_rounds.result.1 (λ e h. (solved.0, subst (IsSolved cx given p effort solved.0) (sym h) solved.1, grows-trans _ _ _ solved.2 c.with_rounds.ensures.grows)) c.with_rounds.ensures.verdict

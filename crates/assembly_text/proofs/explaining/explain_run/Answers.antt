@@ -13,8 +13,8 @@ ask_why-explained-requires-clause-clauses c =
 pub returns-in-Ok-clause-comes : goal.returns-in-Ok-clause-comes
 returns-in-Ok-clause-comes c =
     let last = c.ask_why-explained.new.rounds in
-    on-answer c.ask_why-explained.result (λ e h. solved-before c.args.cx c.args.given.now c.args.predicate c.args.count c.in-Ok.rounds last c.context_of.result e.verdict (search rules) c.context_of.ensures h)
-    (subst (λ xs. IfOk c.ask_why-explained.result (λ e. ComesBefore c.in-Ok.rounds last xs c.args.predicate c.args.count e.verdict)) c.as_slice-clauses.ensures.value c.ask_why-explained.ensures.comes)
+    on-answer c.ask_why-explained.result (λ e h. solved-before c.args.cx c.args.given.now c.args.predicate c.args.effort c.in-Ok.rounds last c.context_of.result e.verdict (search rules) c.context_of.ensures h)
+    (subst (λ xs. IfOk c.ask_why-explained.result (λ e. ComesBefore c.in-Ok.rounds last xs c.args.predicate c.args.effort e.verdict)) c.as_slice-clauses.ensures.value c.ask_why-explained.ensures.comes)
 
 pub returns-in-Ok-clause-sorts : goal.returns-in-Ok-clause-sorts
 returns-in-Ok-clause-sorts c = subst (λ (x : Context). IfOk c.ask_why-explained.result (λ e. AreReasons x.trees e.reasons)) (sym c.context_of.ensures) c.ask_why-explained.ensures.sorts

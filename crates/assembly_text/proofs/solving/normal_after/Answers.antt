@@ -9,11 +9,11 @@ returns-in-Some-clause-is c =
     let is : c.normalize.result ≡ Ok (Some c.in-Some.response) = search rules in
     let last = c.normalize.new.self in
     is_normal (Some c.in-Some.response)
-    (subst (IsNormalized last.context.trees c.args.rounds.now c.args.env c.args.alias c.args.count (table_of last)) is c.normalize.ensures.normalized)
+    (subst (IsNormalized last.context.trees c.args.rounds.now c.args.env c.args.alias c.args.effort (table_of last)) is c.normalize.ensures.normalized)
 
 pub returns-in-None-clause-is : goal.returns-in-None-clause-is
 returns-in-None-clause-is c =
     let is : c.normalize.result ≡ Ok None = search rules in
     let last = c.normalize.new.self in
     is_normal None
-    (subst (IsNormalized last.context.trees c.args.rounds.now c.args.env c.args.alias c.args.count (table_of last)) is c.normalize.ensures.normalized)
+    (subst (IsNormalized last.context.trees c.args.rounds.now c.args.env c.args.alias c.args.effort (table_of last)) is c.normalize.ensures.normalized)

@@ -26,4 +26,4 @@ returns-in-Ok-clause-comes c =
       state_is = made.state_is;
       comes = h;
       leaves = sym c.context_of.ensures;
-    }) (subst (λ xs. IfOk c.ask_normal-normal.result (λ v. NormalComesUnder c.in-Ok.rounds c.ask_normal-normal.new.rounds xs c.args.alias c.args.count c.args.waits v)) c.as_slice-clauses.ensures.value c.ask_normal-normal.ensures.comes)
+    }) (subst (λ xs. IfOk c.ask_normal-normal.result (λ v. NormalComesUnder c.in-Ok.rounds c.ask_normal-normal.new.rounds xs c.args.alias c.args.effort c.args.waits v)) c.as_slice-clauses.ensures.value c.ask_normal-normal.ensures.comes)

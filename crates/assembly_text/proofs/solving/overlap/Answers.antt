@@ -23,8 +23,8 @@ returns-in-Ok-clause-is c =
       stays = said.stays;
       is = subst (λ (r : Result Overlap Stop). IfOk r (IsOverlap c.in-Ok.rounds c.impls_overlap-overlap.new.rounds c.args.first c.args.second)) h said.is;
       allowed = λ w e. answer-is h (said.allowed w e);
-      asked = subst (λ (r : Result Overlap Stop). IfOk r (WhereMay (ClausesWereAsked c.in-Ok.rounds c.args.count (table_of c.impls_overlap-overlap.new.rounds) c.args.first c.args.second))) h said.asked;
-      before = subst (λ (r : Result Overlap Stop). IfOk r (OfClause (ClausesBeforeWereAsked c.in-Ok.rounds c.args.count c.args.first c.args.second))) h said.before;
+      asked = subst (λ (r : Result Overlap Stop). IfOk r (WhereMay (ClausesWereAsked c.in-Ok.rounds c.args.effort (table_of c.impls_overlap-overlap.new.rounds) c.args.first c.args.second))) h said.asked;
+      before = subst (λ (r : Result Overlap Stop). IfOk r (OfClause (ClausesBeforeWereAsked c.in-Ok.rounds c.args.effort c.args.first c.args.second))) h said.before;
       leaves = sym c.context_of.ensures;
     })
 

@@ -22,8 +22,8 @@ returns-in-Ok-clause-is c =
       stays = said.stays;
       is = subst (λ (r : Result Overlap Stop). IfOk r (IsOverlap c.in-Ok.rounds left c.args.first c.args.second)) h said.is;
       decided = subst (λ (r : Result Overlap Stop). IfOk r IsNotAllowed) h said.decided;
-      asked = subst (λ (r : Result Overlap Stop). IfOk r (WhereMay (ClausesWereAsked c.in-Ok.rounds c.args.count (table_of left) c.args.first c.args.second))) h said.asked;
-      before = subst (λ (r : Result Overlap Stop). IfOk r (OfClause (ClausesBeforeWereAsked c.in-Ok.rounds c.args.count c.args.first c.args.second))) h said.before;
+      asked = subst (λ (r : Result Overlap Stop). IfOk r (WhereMay (ClausesWereAsked c.in-Ok.rounds c.args.effort (table_of left) c.args.first c.args.second))) h said.asked;
+      before = subst (λ (r : Result Overlap Stop). IfOk r (OfClause (ClausesBeforeWereAsked c.in-Ok.rounds c.args.effort c.args.first c.args.second))) h said.before;
       leaves = sym c.context_of.ensures;
     })
 

@@ -38,11 +38,11 @@ returns-then-waits-clause-comes c =
     let s = c.may_be_run.new.self in
     let last = c.settled_normal.new.rounds in
     on-answer c.settled_normal.result (λ n h. normalized s c.may_be_run.ensures.stays c.may_be_run.ensures.table
-    (subst (λ (b : Bool). IsNormalBy b s c.args.env c.args.alias c.args.count last n) (sym c.if-waits.true) h)) c.settled_normal.ensures.is
+    (subst (λ (b : Bool). IsNormalBy b s c.args.env c.args.alias c.args.effort last n) (sym c.if-waits.true) h)) c.settled_normal.ensures.is
 
 pub returns-clause-comes : goal.returns-clause-comes
 returns-clause-comes c =
     let s = c.may_be_run.new.self in
     let last = c.normal_after.new.rounds in
     on-answer c.normal_after.result (λ n h. normalized s c.may_be_run.ensures.stays c.may_be_run.ensures.table
-    (subst (λ (b : Bool). IsNormalBy b s c.args.env c.args.alias c.args.count last n) (sym c.if-waits.false) h)) c.normal_after.ensures.is
+    (subst (λ (b : Bool). IsNormalBy b s c.args.env c.args.alias c.args.effort last n) (sym c.if-waits.false) h)) c.normal_after.ensures.is

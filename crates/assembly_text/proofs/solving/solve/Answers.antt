@@ -19,4 +19,4 @@ returns-in-Ok-clause-comes c =
       state_is = made.state_is;
       comes = h;
       leaves = sym c.context_of.ensures;
-    }) (subst (λ xs. IfOk c.ask-verdict.result (λ v. ComesUnder c.in-Ok.rounds c.ask-verdict.new.rounds xs c.args.predicate c.args.count v)) c.as_slice-clauses.ensures.value c.ask-verdict.ensures.comes)
+    }) (subst (λ xs. IfOk c.ask-verdict.result (λ v. ComesUnder c.in-Ok.rounds c.ask-verdict.new.rounds xs c.args.predicate c.args.effort v)) c.as_slice-clauses.ensures.value c.ask-verdict.ensures.comes)

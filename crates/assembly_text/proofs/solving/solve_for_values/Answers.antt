@@ -11,5 +11,5 @@ ask_for_values-solved-requires-clause-clauses c =
 pub returns-in-Ok-clause-comes : goal.returns-in-Ok-clause-comes
 returns-in-Ok-clause-comes c =
     let last = c.ask_for_values-solved.new.rounds in
-    on-answer c.ask_for_values-solved.result (λ s h. solved-before c.args.cx c.args.given.now c.args.predicate c.args.count c.in-Ok.rounds last c.context_of.result s.verdict (search rules) c.context_of.ensures h)
-    (subst (λ xs. IfOk c.ask_for_values-solved.result (λ s. ComesBefore c.in-Ok.rounds last xs c.args.predicate c.args.count s.verdict)) c.as_slice-clauses.ensures.value c.ask_for_values-solved.ensures.comes)
+    on-answer c.ask_for_values-solved.result (λ s h. solved-before c.args.cx c.args.given.now c.args.predicate c.args.effort c.in-Ok.rounds last c.context_of.result s.verdict (search rules) c.context_of.ensures h)
+    (subst (λ xs. IfOk c.ask_for_values-solved.result (λ s. ComesBefore c.in-Ok.rounds last xs c.args.predicate c.args.effort s.verdict)) c.as_slice-clauses.ensures.value c.ask_for_values-solved.ensures.comes)

@@ -58,7 +58,7 @@ loop-number-preserved c =
     let n = c.loop-number.number in
     let x = slice_index_or xs n (record { 0 = 0 }) in (
       stays-trans c.loop-number.invariant.0 c.probe_clause.ensures.stays,
-      one-more c.args.rounds.now c.loop-number.rounds c.args.count c.args.locals xs n x (table_of c.args.rounds.now) (table_of c.probe_clause.new.rounds) c.loop-number.invariant.0 c.requires.locals c.requires.clauses.fit
+      one-more c.args.rounds.now c.loop-number.rounds c.args.effort c.args.locals xs n x (table_of c.args.rounds.now) (table_of c.probe_clause.new.rounds) c.loop-number.invariant.0 c.requires.locals c.requires.clauses.fit
           c.loop-number.invariant.1 (got-there xs n (record { 0 = 0 }) c.loop-number-test.true) (c.in_ok-probe_clause.ensures.asked c.if-branch.false),
     )
 
@@ -67,7 +67,7 @@ returns-clause-asked c = λ none.
     let r = c.args.rounds.now in
     let xs = c.args.clauses.now in
     let all : c.loop-number.number ≡ length xs = omega (arith, c.loop-number-test.false, c.loop-number.auto.number-end) in
-    subst (λ n. SoManyStay r (state r) c.args.count (args_forest r.context.trees c.args.locals) xs (table_of r) n (table_of c.loop-number.rounds)) all c.loop-number.invariant.1
+    subst (λ n. SoManyStay r (state r) c.args.effort (args_forest r.context.trees c.args.locals) xs (table_of r) n (table_of c.loop-number.rounds)) all c.loop-number.invariant.1
 
 pub returns-in_err-probe_clause-clause-cause : goal.returns-in_err-probe_clause-clause-cause
 returns-in_err-probe_clause-clause-cause c = passed-on (IsOverlapStop c.args.rounds.now c.probe_clause.new.rounds) c.from_residual.result c.in_err-probe_clause.field-0.0 c.from_residual.ensures.1 (stop-later (later-table c.loop-number.invariant.0) c.in_err-probe_clause.ensures.cause)

@@ -8,4 +8,4 @@ use Rattle.overlaps.proofs.clauses.first_refused.Given as goal
 abbrev pub invariant-loop-number : goal.invariant-loop-number
 invariant-loop-number l =
     let r = l.fn.rounds in
-    StaysBesideTable r l.rounds × SoManyStay r (state r) l.fn.count (args_forest r.context.trees l.fn.locals) l.fn.clauses (table_of r) l.number (table_of l.rounds)
+    StaysBesideTable r l.rounds × SoManyStay r (state r) l.fn.effort (args_forest r.context.trees l.fn.locals) l.fn.clauses (table_of r) l.number (table_of l.rounds)

@@ -85,7 +85,7 @@ returns-in_default-clause-asked c = λ isnt.
     let fixed-same = c.resolve_clause_if_possible.ensures.kept.fixed_same ∙ c.substitute.ensures.kept.fixed_same in
     let is : clause_tree mid.context.trees x ≡ resolved_tree (state old) t
     = c.in_ok-clause-2.ensures.tree ∙ (ap (λ S. resolved_tree S (clause_tree c.substitute.new.ecx.context.trees c.in_ok-clause.clause)) c.substitute.ensures.same ∙ ap (resolved_tree (state old)) c.in_ok-clause.ensures.tree) in
-    clause-silent old mid t x c.args.count (ap (λ (f : Fixed). f.table) fixed-same) is
+    clause-silent old mid t x c.args.effort (ap (λ (f : Fixed). f.table) fixed-same) is
     (subst (λ (y : Context). trait_said (clause_tree y.trees x).head ≡ None) c.cx.ensures c.in_default.ensures.said)
 
 pub returns-clause-asked : goal.returns-clause-asked
@@ -103,5 +103,5 @@ returns-clause-asked c =
     let said = subst (λ (y : Context). trait_said (clause_tree y.trees x).head ≡ Some (p.trait_ref.def_id, p.polarity)) c.cx.ensures c.in-Some.ensures.said in
     let fits = subst (λ (y : Context). arguments_of (clause_tree y.trees x) ≡ args_forest y.trees p.trait_ref.args) c.cx.ensures c.in-Some.ensures.fits.2 in
     IfOk-weaker c.is_predicate_refused.result _ _
-    (λ b h no. clause-asked old mid t x p c.args.count (table_of c.is_predicate_refused.new.rounds) (later-then (later-kept c.substitute.ensures.kept) (later-kept c.resolve_clause_if_possible.ensures.kept)) same
+    (λ b h no. clause-asked old mid t x p c.args.effort (table_of c.is_predicate_refused.new.rounds) (later-then (later-kept c.substitute.ensures.kept) (later-kept c.resolve_clause_if_possible.ensures.kept)) same
     (ap (λ (f : Fixed). f.table) fixed-same) is said fits (h no)) c.is_predicate_refused.ensures.asked

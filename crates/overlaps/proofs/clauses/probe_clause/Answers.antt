@@ -54,7 +54,7 @@ returns-clause-asked c =
     let ts = old.context.trees in
     let t = substituted_tree (args_forest ts c.args.locals) (clause_tree ts c.args.clause) in
     let ran = c.is_clause_refused-answer.new.rounds in
-    let n = c.args.count in
+    let n = c.args.effort in
     let asked : IfOk c.is_clause_refused-answer.result (λ b. b ≡ false → ClauseStays began (state began) n (resolved_tree (state began) t) (table_of began) (table_of ran))
     = subst (λ (x : Context). IfOk c.is_clause_refused-answer.result (λ b. b ≡ false → ClauseStays began (state began) n (clause_at x (state began) (args_forest x.trees c.args.locals) c.args.clause) (table_of began) (table_of ran)))
     c.begin_probe.ensures.context c.is_clause_refused-answer.ensures.asked in

@@ -10,15 +10,15 @@ pub returns-then-not-stands_here-clause-stays : goal.returns-then-not-stands_her
 returns-then-not-stands_here-clause-stays c = stays-refl c.args.rounds.now
 
 pub returns-in_err-_verdict-clause-stays : goal.returns-in_err-_verdict-clause-stays
-returns-in_err-_verdict-clause-stays c = stays-trans c.may_be_run.ensures.stays c.run.ensures.stays
+returns-in_err-_verdict-clause-stays c = stays-trans c.may_be_run.ensures.stays c.run_by.ensures.stays
 
 pub returns-clause-stays : goal.returns-clause-stays
-returns-clause-stays c = stays-trans c.may_be_run.ensures.stays c.run.ensures.stays
+returns-clause-stays c = stays-trans c.may_be_run.ensures.stays c.run_by.ensures.stays
 
 pub returns-then-not-stands_here-clause-tried : goal.returns-then-not-stands_here-clause-tried
 returns-then-not-stands_here-clause-tried c =
     let r = c.args.rounds.now in
-    predicate-not-tried r r c.args.env c.args.predicate c.args.count c.stands_here.result refl c.requires.env c.requires.args c.requires.empty c.if-not-stands_here.true (c.stands_here.ensures.all c.requires.fit)
+    predicate-not-tried r r c.args.env c.args.predicate c.args.effort c.stands_here.result refl c.requires.env c.requires.args c.requires.empty c.if-not-stands_here.true (c.stands_here.ensures.all c.requires.fit)
 
 pub returns-then-not-branch-clause-tried : goal.returns-then-not-branch-clause-tried
 returns-then-not-branch-clause-tried c =
@@ -29,11 +29,11 @@ returns-then-not-branch-clause-tried c =
 
 pub returns-clause-tried : goal.returns-clause-tried
 returns-clause-tried c =
-    predicate-tried c.args.rounds.now c.may_be_run.new.self c.run.new.self c.args.env c.args.predicate c.args.count c.may_be_run.ensures.stays c.may_be_run.ensures.table c.requires.env c.requires.args c.requires.empty
+    predicate-tried c.args.rounds.now c.may_be_run.new.self c.run_by.new.self c.args.env c.args.predicate c.args.effort c.may_be_run.ensures.stays c.may_be_run.ensures.table c.requires.env c.requires.args c.requires.empty
     c.in_ok-_verdict.ensures.ran
 
 pub returns-in_err-may_be_run-clause-cause : goal.returns-in_err-may_be_run-clause-cause
 returns-in_err-may_be_run-clause-cause c = passed-on (IsOverlapStop c.args.rounds.now c.may_be_run.new.self) c.from_residual.result c.in_err-may_be_run.field-0.0 c.from_residual.ensures.1 (step-stop (later-refl c.args.rounds.now) (step_key (trait_goal c.args.rounds.now.context.trees c.args.env c.args.predicate) c.in_err-may_be_run.ensures.cause))
 
 pub returns-in_err-_verdict-clause-cause : goal.returns-in_err-_verdict-clause-cause
-returns-in_err-_verdict-clause-cause c = passed-on (IsOverlapStop c.args.rounds.now c.run.new.self) c.from_residual-in_err-_verdict.result c.in_err-_verdict.field-0.0 c.from_residual-in_err-_verdict.ensures.1 (step-stop (later-table c.may_be_run.ensures.stays) (step_run (trait_goal c.may_be_run.new.self.context.trees c.args.env c.args.predicate) c.in_err-_verdict.ensures.cause))
+returns-in_err-_verdict-clause-cause c = passed-on (IsOverlapStop c.args.rounds.now c.run_by.new.self) c.from_residual-in_err-_verdict.result c.in_err-_verdict.field-0.0 c.from_residual-in_err-_verdict.ensures.1 (step-stop (later-table c.may_be_run.ensures.stays) (step_run (trait_goal c.may_be_run.new.self.context.trees c.args.env c.args.predicate) c.in_err-_verdict.ensures.cause))

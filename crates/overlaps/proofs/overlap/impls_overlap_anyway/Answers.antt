@@ -17,13 +17,13 @@ pub returns-clause-asked : goal.returns-clause-asked
 returns-clause-asked c =
     let old = c.args.rounds.now in
     let new = c.overlap_aside.new.rounds in
-    subst (λ (p : ImplId × ImplId). IfOk c.overlap_aside.result (WhereMay (OfDeclared old.context p.0 p.1 (WereAsked old (aside (state old)) c.args.count (table_of new))))) c.in_order-pair.ensures
+    subst (λ (p : ImplId × ImplId). IfOk c.overlap_aside.result (WhereMay (OfDeclared old.context p.0 p.1 (WereAsked old (aside (state old)) c.args.effort (table_of new))))) c.in_order-pair.ensures
     c.overlap_aside.ensures.asked
 
 pub returns-clause-before : goal.returns-clause-before
 returns-clause-before c =
     let old = c.args.rounds.now in
-    subst (λ (p : ImplId × ImplId). IfOk c.overlap_aside.result (OfClause (λ w. OfDeclared old.context p.0 p.1 (WereAskedBefore old (aside (state old)) c.args.count p.0 p.1 w)))) c.in_order-pair.ensures
+    subst (λ (p : ImplId × ImplId). IfOk c.overlap_aside.result (OfClause (λ w. OfDeclared old.context p.0 p.1 (WereAskedBefore old (aside (state old)) c.args.effort p.0 p.1 w)))) c.in_order-pair.ensures
     c.overlap_aside.ensures.before
 
 pub returns-clause-uncertain : goal.returns-clause-uncertain

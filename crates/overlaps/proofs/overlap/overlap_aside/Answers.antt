@@ -42,7 +42,7 @@ returns-clause-asked c =
     let began = c.begin_probe.new.self in
     let ran = c.overlap_here-answer.new.rounds in
     IfOk-weaker c.overlap_here-answer.result _ _
-    (may-weaker (asked-probed old began ran c.end_probe.new.self (aside (state old)) c.args.count c.args.first c.args.second c.begin_probe.ensures.context
+    (may-weaker (asked-probed old began ran c.end_probe.new.self (aside (state old)) c.args.effort c.args.first c.args.second c.begin_probe.ensures.context
     (later-begun c.begin_probe.ensures.grows c.begin_probe.ensures.fixed) c.begin_probe.ensures.fixed c.in_ok-probe.ensures.ok.0 c.end_probe.ensures.fixed))
     c.overlap_here-answer.ensures.asked
 
@@ -51,7 +51,7 @@ returns-clause-before c =
     let old = c.args.rounds.now in
     let began = c.begin_probe.new.self in
     IfOk-weaker c.overlap_here-answer.result _ _
-    (of-clause-weaker (before-probed old began (aside (state old)) c.args.count c.args.first c.args.second c.begin_probe.ensures.context (later-begun c.begin_probe.ensures.grows c.begin_probe.ensures.fixed)
+    (of-clause-weaker (before-probed old began (aside (state old)) c.args.effort c.args.first c.args.second c.begin_probe.ensures.context (later-begun c.begin_probe.ensures.grows c.begin_probe.ensures.fixed)
     c.begin_probe.ensures.fixed c.in_ok-probe.ensures.ok.0))
     c.overlap_here-answer.ensures.before
 

@@ -52,7 +52,7 @@ returns-clause-asked c =
     let kept = c.open_both.ensures.kept in
     let o : AreOpened old.context (state old) c.args.first c.args.second mid.context (state mid) p = search rules in
     IfOk-weaker c.overlap_of_pair.result _ _
-    (may-weaker (pair-declared old mid c.args.count c.args.first c.args.second p (table_of c.overlap_of_pair.new.rounds) (later-kept kept) kept.fixed_same o))
+    (may-weaker (pair-declared old mid c.args.effort c.args.first c.args.second p (table_of c.overlap_of_pair.new.rounds) (later-kept kept) kept.fixed_same o))
     c.overlap_of_pair.ensures.asked
 
 pub returns-clause-before : goal.returns-clause-before
@@ -62,7 +62,7 @@ returns-clause-before c =
     let p = c.in-Some.pair in
     let kept = c.open_both.ensures.kept in
     let o : AreOpened old.context (state old) c.args.first c.args.second mid.context (state mid) p = search rules in
-    IfOk-weaker c.overlap_of_pair.result _ _ (of-clause-weaker (pair-declared-before old mid c.args.count c.args.first c.args.second p (later-kept kept) kept.fixed_same o)) c.overlap_of_pair.ensures.before
+    IfOk-weaker c.overlap_of_pair.result _ _ (of-clause-weaker (pair-declared-before old mid c.args.effort c.args.first c.args.second p (later-kept kept) kept.fixed_same o)) c.overlap_of_pair.ensures.before
 
 pub returns-clause-uncertain : goal.returns-clause-uncertain
 returns-clause-uncertain c =

@@ -139,7 +139,7 @@ returns-clause-asked c =
     = ap (λ (x : Fixed). x.table) c.begin_probe.ensures.fixed ∙ (ap (λ (x : Fixed). x.table) c.make_equal.ensures.kept.fixed_same ∙ ap (λ (x : Rest). x.fixed.table) c.mk_param_env.ensures.rest) in
     let equal = equated-as-made old mid c.in_ok-env.env p (Some after) c.mk_param_env.ensures.made.kept c.mk_param_env.ensures.rest c.in_ok-env.ensures.made.tree c.requires.pair (c.in_ok-make_equal.ensures.equal c.if-not-branch.false) in
     IfOk-weaker c.overlap_unless_leaking-answer.result _ _
-    (may-weaker (pair-asked old began c.overlap_unless_leaking-answer.new.rounds c.end_probe.new.self c.args.count p after later table c.requires.pair equal c.in_ok-aside.ensures.ok.0 c.end_probe.ensures.fixed))
+    (may-weaker (pair-asked old began c.overlap_unless_leaking-answer.new.rounds c.end_probe.new.self c.args.effort p after later table c.requires.pair equal c.in_ok-aside.ensures.ok.0 c.end_probe.ensures.fixed))
     c.overlap_unless_leaking-answer.ensures.asked
 
 pub returns-clause-before : goal.returns-clause-before
@@ -153,7 +153,7 @@ returns-clause-before c =
     let table : table_of began ≡ table_of old
     = ap (λ (x : Fixed). x.table) c.begin_probe.ensures.fixed ∙ (ap (λ (x : Fixed). x.table) c.make_equal.ensures.kept.fixed_same ∙ ap (λ (x : Rest). x.fixed.table) c.mk_param_env.ensures.rest) in
     let equal = equated-as-made old mid c.in_ok-env.env p (Some after) c.mk_param_env.ensures.made.kept c.mk_param_env.ensures.rest c.in_ok-env.ensures.made.tree c.requires.pair (c.in_ok-make_equal.ensures.equal c.if-not-branch.false) in
-    IfOk-weaker c.overlap_unless_leaking-answer.result _ _ (of-clause-weaker (pair-asked-before old began c.args.count p after later table c.requires.pair equal c.in_ok-aside.ensures.ok.0)) c.overlap_unless_leaking-answer.ensures.before
+    IfOk-weaker c.overlap_unless_leaking-answer.result _ _ (of-clause-weaker (pair-asked-before old began c.args.effort p after later table c.requires.pair equal c.in_ok-aside.ensures.ok.0)) c.overlap_unless_leaking-answer.ensures.before
 
 pub returns-then-are_undecided-clause-uncertain : goal.returns-then-are_undecided-clause-uncertain
 returns-then-are_undecided-clause-uncertain c = λ e. pair_has_alias (c.are_undecided.ensures.some c.if-are_undecided.true)

@@ -26,12 +26,12 @@ pub returns-clause-asked : goal.returns-clause-asked
 returns-clause-asked c =
     let r = c.args.rounds.now in
     let new = c.overlap_where_equal.new.rounds in
-    subst (WhereMay (BothStay r (state r) c.args.count c.args.pair.now (table_of r) (table_of new))) (sym c.unless_leaking.ensures) (unless-asked (BothStay r (state r) c.args.count c.args.pair.now (table_of r) (table_of new)) c.args.leaks c.in_ok-answer.answer c.in_ok-answer.ensures.asked)
+    subst (WhereMay (BothStay r (state r) c.args.effort c.args.pair.now (table_of r) (table_of new))) (sym c.unless_leaking.ensures) (unless-asked (BothStay r (state r) c.args.effort c.args.pair.now (table_of r) (table_of new)) c.args.leaks c.in_ok-answer.answer c.in_ok-answer.ensures.asked)
 
 pub returns-clause-before : goal.returns-clause-before
 returns-clause-before c =
     let r = c.args.rounds.now in
-    subst (OfClause (StayBefore r (state r) c.args.count c.args.pair.now (table_of r))) (sym c.unless_leaking.ensures) (unless-before (StayBefore r (state r) c.args.count c.args.pair.now (table_of r)) c.args.leaks c.in_ok-answer.answer c.in_ok-answer.ensures.before)
+    subst (OfClause (StayBefore r (state r) c.args.effort c.args.pair.now (table_of r))) (sym c.unless_leaking.ensures) (unless-before (StayBefore r (state r) c.args.effort c.args.pair.now (table_of r)) c.args.leaks c.in_ok-answer.answer c.in_ok-answer.ensures.before)
 
 pub returns-clause-uncertain : goal.returns-clause-uncertain
 returns-clause-uncertain c =

@@ -55,7 +55,7 @@ returns-in_err-instance-clause-cause c = passed-on (IsOverlapStop c.args.rounds.
 pub returns-clause-asked : goal.returns-clause-asked
 returns-clause-asked c =
     let old = c.args.rounds.now in
-    subst (BothStay old (state old) c.args.count c.args.pair.now (table_of old)) (sym (c.common_instance.ensures.table ∙ c.are_certain.ensures.table)) (c.in_ok-clause.ensures.asked c.in_default.is)
+    subst (BothStay old (state old) c.args.effort c.args.pair.now (table_of old)) (sym (c.common_instance.ensures.table ∙ c.are_certain.ensures.table)) (c.in_ok-clause.ensures.asked c.in_default.is)
 
 pub returns-clause-uncertain : goal.returns-clause-uncertain
 returns-clause-uncertain c = λ e.

@@ -81,7 +81,7 @@ returns-clause-asked c = λ none.
     let mid = c.first_refused.new.rounds in
     let new = c.first_refused-2.new.rounds in
     let p = c.args.pair.now in
-    let n = c.args.count in
+    let n = c.args.effort in
     both-stay old mid new n p c.first_refused.ensures.stays c.requires.pair
     (subst (λ (xs : List Clause). AllStay old (state old) n (args_forest old.context.trees p.first.locals) xs (table_of old) (table_of mid)) c.as_slice-clauses.ensures.value (c.in_ok-number.ensures.asked c.in_default.is))
     (subst (λ (xs : List Clause). AllStay mid (state mid) n (args_forest mid.context.trees p.second.locals) xs (table_of mid) (table_of new)) c.as_slice-clauses-2.ensures.value
@@ -92,17 +92,17 @@ returns-in-Some-clause-before c =
     let old = c.args.rounds.now in
     let o = c.args.pair.now.first in
     let n = c.in-Some.number in
-    let stay : FirstStay old (state old) c.args.count (args_forest old.context.trees o.locals) c.as_slice-clauses.result.now (table_of old) n = search rules in
-    before_of_first refl (subst (λ (xs : List Clause). FirstStay old (state old) c.args.count (args_forest old.context.trees o.locals) xs (table_of old) n) c.as_slice-clauses.ensures.value stay)
+    let stay : FirstStay old (state old) c.args.effort (args_forest old.context.trees o.locals) c.as_slice-clauses.result.now (table_of old) n = search rules in
+    before_of_first refl (subst (λ (xs : List Clause). FirstStay old (state old) c.args.effort (args_forest old.context.trees o.locals) xs (table_of old) n) c.as_slice-clauses.ensures.value stay)
 
 pub returns-in-Some-2-clause-before : goal.returns-in-Some-2-clause-before
 returns-in-Some-2-clause-before c =
     let old = c.args.rounds.now in
     let mid = c.first_refused.new.rounds in
     let p = c.args.pair.now in
-    let count = c.args.count in
+    let effort = c.args.effort in
     let n = c.in-Some-2.number in
-    let stay : FirstStay mid (state mid) count (args_forest mid.context.trees p.second.locals) c.as_slice-clauses-2.result.now (table_of mid) n = search rules in
-    before-of-second old mid count p (record { of = p.second.of; number = n }) c.first_refused.ensures.stays c.requires.pair refl
-    (subst (λ (xs : List Clause). AllStay old (state old) count (args_forest old.context.trees p.first.locals) xs (table_of old) (table_of mid)) c.as_slice-clauses.ensures.value (c.in_ok-number.ensures.asked c.in_default.is))
-    (subst (λ (xs : List Clause). FirstStay mid (state mid) count (args_forest mid.context.trees p.second.locals) xs (table_of mid) n) c.as_slice-clauses-2.ensures.value stay)
+    let stay : FirstStay mid (state mid) effort (args_forest mid.context.trees p.second.locals) c.as_slice-clauses-2.result.now (table_of mid) n = search rules in
+    before-of-second old mid effort p (record { of = p.second.of; number = n }) c.first_refused.ensures.stays c.requires.pair refl
+    (subst (λ (xs : List Clause). AllStay old (state old) effort (args_forest old.context.trees p.first.locals) xs (table_of old) (table_of mid)) c.as_slice-clauses.ensures.value (c.in_ok-number.ensures.asked c.in_default.is))
+    (subst (λ (xs : List Clause). FirstStay mid (state mid) effort (args_forest mid.context.trees p.second.locals) xs (table_of mid) n) c.as_slice-clauses-2.ensures.value stay)

@@ -15,34 +15,34 @@ use Rattle.overlaps.proofs.Uncertainty.{no-then}
 use Rattle.overlaps.specs.Stopping.{IsOverlapStop, step_key, step_run}
 use Rattle.overlaps.proofs.together.is_proved.Goals as goal
 
-pub returns-in_err-run-clause-cause : goal.returns-in_err-run-clause-cause
-returns-in_err-run-clause-cause c =
+pub returns-in_err-run_by-clause-cause : goal.returns-in_err-run_by-clause-cause
+returns-in_err-run_by-clause-cause c =
     let r = c.args.rounds.now in
-    passed-on (IsOverlapStop r c.run.new.self) c.from_residual.result c.in_err-run.field-0.0 c.from_residual.ensures.1
-    (step-stop (later-table (stays-refl r)) (step_run (trait_goal r.context.trees c.args.env c.args.predicate) c.in_err-run.ensures.cause))
+    passed-on (IsOverlapStop r c.run_by.new.self) c.from_residual.result c.in_err-run_by.field-0.0 c.from_residual.ensures.1
+    (step-stop (later-table (stays-refl r)) (step_run (trait_goal r.context.trees c.args.env c.args.predicate) c.in_err-run_by.ensures.cause))
 
 pub entry_leaks-requires : goal.entry_leaks-requires
-entry_leaks-requires c = (trait-goal-kept _ _ _ _ c.run.ensures.stays.grows c.requires.goal).0
+entry_leaks-requires c = (trait-goal-kept _ _ _ _ c.run_by.ensures.stays.grows c.requires.goal).0
 
 pub returns-in_err-leaks-in-Yes-clause-stays : goal.returns-in_err-leaks-in-Yes-clause-stays
-returns-in_err-leaks-in-Yes-clause-stays c = stays-trans c.run.ensures.stays c.entry_leaks.ensures.stays
+returns-in_err-leaks-in-Yes-clause-stays c = stays-trans c.run_by.ensures.stays c.entry_leaks.ensures.stays
 
 pub returns-in_err-leaks-in-Yes-clause-cause : goal.returns-in_err-leaks-in-Yes-clause-cause
 returns-in_err-leaks-in-Yes-clause-cause c =
     passed-on (IsOverlapStop c.args.rounds.now c.entry_leaks.new.self) c.from_residual-in_err-leaks-in-Yes.result c.in_err-leaks-in-Yes.field-0.0 c.from_residual-in_err-leaks-in-Yes.ensures.1
-    (step-stop (later-table c.run.ensures.stays) (step_key (trait_goal c.run.new.self.context.trees c.args.env c.args.predicate) c.in_err-leaks-in-Yes.ensures.cause))
+    (step-stop (later-table c.run_by.ensures.stays) (step_key (trait_goal c.run_by.new.self.context.trees c.args.env c.args.predicate) c.in_err-leaks-in-Yes.ensures.cause))
 
 pub returns-in-Yes-clause-stays : goal.returns-in-Yes-clause-stays
-returns-in-Yes-clause-stays c = stays-trans c.run.ensures.stays c.entry_leaks.ensures.stays
+returns-in-Yes-clause-stays c = stays-trans c.run_by.ensures.stays c.entry_leaks.ensures.stays
 
 pub returns-in-Yes-clause-yes : goal.returns-in-Yes-clause-yes
 returns-in-Yes-clause-yes c = λ e.
     let r = c.args.rounds.now in
-    let ran = c.run.new.self in
+    let ran = c.run_by.new.self in
     let ts = ran.context.trees in
     let k = key_at (state r) (trait_goal r.context.trees c.args.env c.args.predicate) in
-    let s = c.run.ensures.stays.state_same in
-    let g = (trait-goal-kept r.context ran.context c.args.env c.args.predicate c.run.ensures.stays.grows c.requires.goal).1 in
+    let s = c.run_by.ensures.stays.state_same in
+    let g = (trait-goal-kept r.context ran.context c.args.env c.args.predicate c.run_by.ensures.stays.grows c.requires.goal).1 in
     let noted = c.in_ok-leaks-in-Yes.leaks in
     let here : verdict_in (sure_of ran) k ≡ unless_noted noted (verdict_in (table_of ran) k)
     = subst (λ (q : State × TraitGoal). verdict_in (sure_of ran) (key_at q.0 q.1) ≡ unless_noted noted (verdict_in (table_of ran) (key_at q.0 q.1))) (λ i. (s i, g i)) c.in_ok-leaks-in-Yes.ensures.is in
@@ -51,5 +51,5 @@ returns-in-Yes-clause-yes c = λ e.
       way = c.in-Yes.field-1;
       yes =
           ap (λ (T : GoalTable Via). verdict_in T k) c.entry_leaks.ensures.sure
-          ∙ (here ∙ (ap (λ b. unless_noted b (verdict_in (table_of ran) k)) (no-then noted e) ∙ (c.in_ok-run.ensures.answer ∙ ap (λ (v : Verdict). Some (verdict_seen ts v)) c.in-Yes.is)));
+          ∙ (here ∙ (ap (λ b. unless_noted b (verdict_in (table_of ran) k)) (no-then noted e) ∙ (c.in_ok-run_by.ensures.answer ∙ ap (λ (v : Verdict). Some (verdict_seen ts v)) c.in-Yes.is)));
     }

@@ -136,10 +136,10 @@ returns-clause-comes c =
     let key = trait-key-later r s old.context c.args.env alias p c.is_proved.ensures.stays stays.grows is c.may_be_run.ensures.goal in
     let never
     = subst (λ (y : Context). HaveVariable (args_forest y.trees p.trait_ref.args) → RestsOnPart y p.trait_ref.def_id → ⊥) c.cx-3.ensures (c.in_ok-refuses_instances.ensures.instances c.if-not-branch-3.false) in
-    came-of old s c.normalize.new.self c.args.env alias c.args.count c.normalize.result stays
+    came-of old s c.normalize.new.self c.args.env alias c.args.effort c.normalize.result stays
     (subst (HasYes (sure_of s)) key (c.in_ok-is_proved.ensures.yes c.if-not-branch-2.false)) (of-projection old.context s.context c.args.env alias p stays.grows is never) c.normalize.ensures.normalized
 
 pub returns-clause-cause : goal.returns-clause-cause
 returns-clause-cause c =
     let stays = stays-trans (stays-trans c.verdict_here.ensures.stays c.may_be_run.ensures.stays) c.is_proved.ensures.stays in
-    normalizing-stop c.args.rounds.now c.is_proved.new.rounds c.normalize.new.self c.args.env c.args.alias c.args.count c.normalize.result (later-table stays) c.normalize.ensures.normalized
+    normalizing-stop c.args.rounds.now c.is_proved.new.rounds c.normalize.new.self c.args.env c.args.alias c.args.effort c.normalize.result (later-table stays) c.normalize.ensures.normalized

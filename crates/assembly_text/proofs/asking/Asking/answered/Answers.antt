@@ -14,6 +14,6 @@ returns-clause-adds c =
     printed-as c.solved-asking.result.1 c.print_verdict-made.result (λ v. string_bytes last.answer ≡ string_bytes mid.answer ++ verdict_text v) c.solved-asking.ensures.comes c.print_verdict-made.ensures.printed c.print_verdict-made.ensures.stopped
     (λ v h p. record {
       verdict = v;
-      solved = subst (λ (x : Context). IsSolved first.scope.maker first.given c.args.predicate c.args.count x v) (sym (ap (λ s. s.maker) c.print_verdict-made.ensures.scope)) h;
+      solved = subst (λ (x : Context). IsSolved first.scope.maker first.given c.args.predicate c.args.effort x v) (sym (ap (λ s. s.maker) c.print_verdict-made.ensures.scope)) h;
       added = p ∙ ap (λ a. string_bytes a ++ verdict_text v) c.solved-asking.ensures.answer;
     })

@@ -14,6 +14,6 @@ returns-clause-adds c =
     printed-as c.considered-asking.result.1 c.print_considered-made.result (λ r. AddsWordsBefore r.verdict (string_bytes mid.answer) (string_bytes last.answer)) c.considered-asking.ensures.comes c.print_considered-made.ensures.printed c.print_considered-made.ensures.stopped
     (λ r h p. record {
       verdict = r.verdict;
-      solved = subst (λ (x : Context). IsSolvedBefore first.scope.maker first.given c.args.predicate c.args.count x r.verdict) (sym (ap (λ x. x.maker) c.print_considered-made.ensures.scope)) h;
+      solved = subst (λ (x : Context). IsSolvedBefore first.scope.maker first.given c.args.predicate c.args.effort x r.verdict) (sym (ap (λ x. x.maker) c.print_considered-made.ensures.scope)) h;
       added = subst (λ a. AddsWordsBefore r.verdict (string_bytes a) (string_bytes last.answer)) c.considered-asking.ensures.answer p;
     })

@@ -14,6 +14,6 @@ returns-clause-adds c =
     printed-as c.explained-asking.result.1 c.print_explained-made.result (λ e. AddsVerdict e.verdict (string_bytes mid.answer) (string_bytes last.answer)) c.explained-asking.ensures.comes c.print_explained-made.ensures.printed c.print_explained-made.ensures.stopped
     (λ e h p. record {
       verdict = e.verdict;
-      solved = subst (λ (x : Context). IsSolvedBefore first.scope.maker first.given c.args.predicate c.args.count x e.verdict) (sym (ap (λ x. x.maker) c.print_explained-made.ensures.scope)) h;
+      solved = subst (λ (x : Context). IsSolvedBefore first.scope.maker first.given c.args.predicate c.args.effort x e.verdict) (sym (ap (λ x. x.maker) c.print_explained-made.ensures.scope)) h;
       added = subst (λ a. AddsVerdict e.verdict (string_bytes a) (string_bytes last.answer)) c.explained-asking.ensures.answer p;
     })

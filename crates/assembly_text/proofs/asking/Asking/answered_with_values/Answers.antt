@@ -14,6 +14,6 @@ returns-clause-adds c =
     printed-as c.solved_for_values-asking.result.1 c.print_solved-made.result (λ s. AddsVerdict s.verdict (string_bytes mid.answer) (string_bytes last.answer)) c.solved_for_values-asking.ensures.comes c.print_solved-made.ensures.printed c.print_solved-made.ensures.stopped
     (λ s h p. record {
       verdict = s.verdict;
-      solved = subst (λ (x : Context). IsSolvedBefore first.scope.maker first.given c.args.predicate c.args.count x s.verdict) (sym (ap (λ x. x.maker) c.print_solved-made.ensures.scope)) h;
+      solved = subst (λ (x : Context). IsSolvedBefore first.scope.maker first.given c.args.predicate c.args.effort x s.verdict) (sym (ap (λ x. x.maker) c.print_solved-made.ensures.scope)) h;
       added = subst (λ a. AddsVerdict s.verdict (string_bytes a) (string_bytes last.answer)) c.solved_for_values-asking.ensures.answer p;
     })

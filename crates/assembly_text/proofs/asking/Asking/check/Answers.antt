@@ -15,4 +15,4 @@ returns-in-Ok c =
     let f = c.forget.ensures in
     let said = c.answered_with_findings-asking in
     subst (λ (x : Names × Context × Given). OnOk said.result.1 (SaysFindingsOfLine c.args.words.rest.now x.0 x.1 x.2 (string_bytes said.result.0.answer))) (λ i. (f.names i, f.context i, f.given i))
-    (says-of-line said.result.1 _ _ _ c.in-Ok.count c.args.words.rest.now (string_bytes said.result.0.answer) c.in-Ok.ensures.named said.ensures)
+    (says-of-line said.result.1 _ _ _ c.in-Ok.effort c.args.words.rest.now (string_bytes said.result.0.answer) c.in-Ok.ensures.named said.ensures)

@@ -50,7 +50,7 @@ returns-in-Ok-May-clause-found c =
     let x = c.in-Ok-May.instance in
     let is : c.overlapped-asking.result.1 ≡ Ok (O.May x) = search rules in
     let h = as_declared first.scope.maker mid.scope.maker (grows-refl first.scope.maker) (ok-value _ c.overlapped-asking.result.1 (O.May x) is c.overlapped-asking.ensures.is) in
-    IfOk-weaker c.unless_apart.result.1 _ _ (instance-found first.scope.maker mid.scope.maker w first.given c.args.count c.args.first c.args.second x h)
+    IfOk-weaker c.unless_apart.result.1 _ _ (instance-found first.scope.maker mid.scope.maker w first.given c.args.effort c.args.first c.args.second x h)
     (subst (λ (y : Given). IfOk c.unless_apart.result.1 (IsInstanceUnlessApart mid.scope.maker y c.args.first c.args.second x)) c.overlapped-asking.ensures.given c.unless_apart.ensures.found)
 
 pub returns-in-Ok-May-clause-stopped : goal.returns-in-Ok-May-clause-stopped
@@ -65,7 +65,7 @@ unless_apart-requires-clause-printable c =
     let mid = c.overlapped-asking.result.0 in
     let x = c.in-Ok-May.instance in
     let is : c.overlapped-asking.result.1 ≡ Ok (O.May x) = search rules in
-    overlap-prints c.args.self.scope.maker c.args.self.given c.args.first c.args.second c.args.count mid.scope.maker (O.May x) (ok-value _ c.overlapped-asking.result.1 (O.May x) is c.overlapped-asking.ensures.is)
+    overlap-prints c.args.self.scope.maker c.args.self.given c.args.first c.args.second c.args.effort mid.scope.maker (O.May x) (ok-value _ c.overlapped-asking.result.1 (O.May x) is c.overlapped-asking.ensures.is)
 
 pub returns-in-Err-clause-stopped : goal.returns-in-Err-clause-stopped
 returns-in-Err-clause-stopped c =
@@ -77,8 +77,8 @@ pub returns-in-Ok-Allowed-Specializes-clause-found : goal.returns-in-Ok-Allowed-
 returns-in-Ok-Allowed-Specializes-clause-found c =
     let first = c.args.self in
     let mid = c.overlapped-asking.result.0 in
-    IfOk-weaker c.compare_declared.result.1 _ _ (found-before first.scope.maker mid.scope.maker c.overlapped-asking.ensures.grows first.given c.args.count c.args.first c.args.second)
-    (subst (λ (y : Given). IfOk c.compare_declared.result.1 (IsFoundOf mid.scope.maker y c.args.count c.args.first c.args.second)) c.overlapped-asking.ensures.given c.compare_declared.ensures.found)
+    IfOk-weaker c.compare_declared.result.1 _ _ (found-before first.scope.maker mid.scope.maker c.overlapped-asking.ensures.grows first.given c.args.effort c.args.first c.args.second)
+    (subst (λ (y : Given). IfOk c.compare_declared.result.1 (IsFoundOf mid.scope.maker y c.args.effort c.args.first c.args.second)) c.overlapped-asking.ensures.given c.compare_declared.ensures.found)
 
 pub returns-in-Ok-Allowed-Specializes-clause-stopped : goal.returns-in-Ok-Allowed-Specializes-clause-stopped
 returns-in-Ok-Allowed-Specializes-clause-stopped c =

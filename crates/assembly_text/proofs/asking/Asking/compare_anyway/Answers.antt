@@ -38,7 +38,7 @@ returns-in-Ok-May-clause-found c =
     let x = c.in-Ok-May.instance in
     let is : c.overlapped_anyway-asking.result.1 ≡ Ok (O.May x) = search rules in
     let h = anyway first.scope.maker mid.scope.maker (grows-refl first.scope.maker) (ok-value _ c.overlapped_anyway-asking.result.1 (O.May x) is c.overlapped_anyway-asking.ensures.is) in
-    IfOk-weaker c.unless_apart.result.1 _ _ (instance-found first.scope.maker mid.scope.maker w first.given c.args.count c.args.first c.args.second x h)
+    IfOk-weaker c.unless_apart.result.1 _ _ (instance-found first.scope.maker mid.scope.maker w first.given c.args.effort c.args.first c.args.second x h)
     (subst (λ (y : Given). IfOk c.unless_apart.result.1 (IsInstanceUnlessApart mid.scope.maker y c.args.first c.args.second x)) c.overlapped_anyway-asking.ensures.given c.unless_apart.ensures.found)
 
 pub returns-in-Ok-May-clause-stopped : goal.returns-in-Ok-May-clause-stopped
@@ -53,7 +53,7 @@ unless_apart-requires-clause-printable c =
     let mid = c.overlapped_anyway-asking.result.0 in
     let x = c.in-Ok-May.instance in
     let is : c.overlapped_anyway-asking.result.1 ≡ Ok (O.May x) = search rules in
-    anyway-prints c.args.self.scope.maker c.args.self.given c.args.first c.args.second c.args.count mid.scope.maker (O.May x) (ok-value _ c.overlapped_anyway-asking.result.1 (O.May x) is c.overlapped_anyway-asking.ensures.is)
+    anyway-prints c.args.self.scope.maker c.args.self.given c.args.first c.args.second c.args.effort mid.scope.maker (O.May x) (ok-value _ c.overlapped_anyway-asking.result.1 (O.May x) is c.overlapped_anyway-asking.ensures.is)
 
 pub returns-in-Err-clause-stopped : goal.returns-in-Err-clause-stopped
 returns-in-Err-clause-stopped c =

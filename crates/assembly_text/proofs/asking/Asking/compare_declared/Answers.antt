@@ -17,8 +17,8 @@ returns-in-Ok-None-clause-found c =
     let first = c.args.self in
     let mid = c.special_one-asking.result.0 in
     let s = c.special_one-asking.ensures.stays in
-    IfOk-weaker c.compare_anyway.result.1 _ _ (found-before first.scope.maker mid.scope.maker s.grows first.given c.args.count c.args.first c.args.second)
-    (subst (λ (y : Given). IfOk c.compare_anyway.result.1 (IsFoundOf mid.scope.maker y c.args.count c.args.first c.args.second)) s.given c.compare_anyway.ensures.found)
+    IfOk-weaker c.compare_anyway.result.1 _ _ (found-before first.scope.maker mid.scope.maker s.grows first.given c.args.effort c.args.first c.args.second)
+    (subst (λ (y : Given). IfOk c.compare_anyway.result.1 (IsFoundOf mid.scope.maker y c.args.effort c.args.first c.args.second)) s.given c.compare_anyway.ensures.found)
 
 pub returns-in-Ok-None-clause-stopped : goal.returns-in-Ok-None-clause-stopped
 returns-in-Ok-None-clause-stopped c =

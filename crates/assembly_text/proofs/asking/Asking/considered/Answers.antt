@@ -19,4 +19,4 @@ returns-clause-grows c = over-all (λ x g y. Grows x y) _ _ _ _ _ _ c.apart-make
 
 pub returns-clause-comes : goal.returns-clause-comes
 returns-clause-comes c =
-    over-all (λ x g y. IfOk c.consider-maker.result.1 (λ r. IsSolvedBefore x g c.args.predicate c.args.count y r.verdict)) _ _ _ _ _ _ c.apart-maker.ensures.context c.apart-maker.ensures.given c.with.ensures.context c.consider-maker.ensures.comes
+    over-all (λ x g y. IfOk c.consider-maker.result.1 (λ r. IsSolvedBefore x g c.args.predicate c.args.effort y r.verdict)) _ _ _ _ _ _ c.apart-maker.ensures.context c.apart-maker.ensures.given c.with.ensures.context c.consider-maker.ensures.comes

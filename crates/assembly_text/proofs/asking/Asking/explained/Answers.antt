@@ -20,7 +20,7 @@ returns-clause-grows c = over-all (λ x g y. Grows x y) _ _ _ _ _ _ c.apart-make
 
 pub returns-clause-comes : goal.returns-clause-comes
 returns-clause-comes c =
-    over-all (λ x g y. IfOk c.explain-maker.result.1 (λ e. IsSolvedBefore x g c.args.predicate c.args.count y e.verdict)) _ _ _ _ _ _ c.apart-maker.ensures.context c.apart-maker.ensures.given c.with.ensures.context c.explain-maker.ensures.comes
+    over-all (λ x g y. IfOk c.explain-maker.result.1 (λ e. IsSolvedBefore x g c.args.predicate c.args.effort y e.verdict)) _ _ _ _ _ _ c.apart-maker.ensures.context c.apart-maker.ensures.given c.with.ensures.context c.explain-maker.ensures.comes
 
 pub returns-clause-sorts : goal.returns-clause-sorts
 returns-clause-sorts c = subst (λ (x : Context). IfOk c.explain-maker.result.1 (λ e. AreReasons x.trees e.reasons)) (sym c.with.ensures.context) c.explain-maker.ensures.sorts

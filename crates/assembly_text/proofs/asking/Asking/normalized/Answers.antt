@@ -19,7 +19,7 @@ returns-clause-grows c = over-all (λ x g y. Grows x y) _ _ _ _ _ _ c.apart-make
 
 pub returns-clause-comes : goal.returns-clause-comes
 returns-clause-comes c =
-    over-all (λ x g y. IfOk c.normalize-maker.result.1 (λ n. IsNormalSolved x g c.args.alias c.args.count c.args.waits y n)) _ _ _ _ _ _ c.apart-maker.ensures.context c.apart-maker.ensures.given c.with.ensures.context c.normalize-maker.ensures.comes
+    over-all (λ x g y. IfOk c.normalize-maker.result.1 (λ n. IsNormalSolved x g c.args.alias c.args.effort c.args.waits y n)) _ _ _ _ _ _ c.apart-maker.ensures.context c.apart-maker.ensures.given c.with.ensures.context c.normalize-maker.ensures.comes
 
 pub returns-clause-sort : goal.returns-clause-sort
 returns-clause-sort c = subst (λ (x : Context). IfOk c.normalize-maker.result.1 (IsNormal x.trees)) (sym c.with.ensures.context) c.normalize-maker.ensures.sort

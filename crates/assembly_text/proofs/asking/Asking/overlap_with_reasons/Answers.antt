@@ -9,6 +9,6 @@ pub returns-in-Ok : goal.returns-in-Ok
 returns-in-Ok c =
     let first = c.args.self in
     let mid = c.answered_with_overlap-asking.result.0 in
-    let said = subst (λ (r : Result (Unit {0}) Stop). OnOk r (AddsOverlap first.scope.maker first.given c.args.first c.args.second c.args.count mid.scope.maker (string_bytes first.answer) (string_bytes mid.answer))) c.in-Ok.is
+    let said = subst (λ (r : Result (Unit {0}) Stop). OnOk r (AddsOverlap first.scope.maker first.given c.args.first c.args.second c.args.effort mid.scope.maker (string_bytes first.answer) (string_bytes mid.answer))) c.in-Ok.is
     c.answered_with_overlap-asking.ensures in
     on-ok-weaker c.add_reasons.result.1 (λ h. record { mid = mid.scope.maker; said = string_bytes mid.answer; says = said; more = h }) c.add_reasons.ensures

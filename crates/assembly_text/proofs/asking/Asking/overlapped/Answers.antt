@@ -16,7 +16,7 @@ returns-clause-grows c = over-all (λ x g y. Grows x y) _ _ _ _ _ _ c.apart-make
 
 pub returns-clause-is : goal.returns-clause-is
 returns-clause-is c =
-    over-all (λ x g y. IfOk c.overlap-maker.result.1 (IsOverlapSolved x g c.args.first c.args.second c.args.count y)) _ _ _ _ _ _ c.apart-maker.ensures.context c.apart-maker.ensures.given c.with.ensures.context c.overlap-maker.ensures.is
+    over-all (λ x g y. IfOk c.overlap-maker.result.1 (IsOverlapSolved x g c.args.first c.args.second c.args.effort y)) _ _ _ _ _ _ c.apart-maker.ensures.context c.apart-maker.ensures.given c.with.ensures.context c.overlap-maker.ensures.is
 
 pub returns-clause-stopped : goal.returns-clause-stopped
 returns-clause-stopped c =

@@ -19,7 +19,7 @@ returns-clause-grows c = over-all (λ x g y. Grows x y) _ _ _ _ _ _ c.apart-make
 
 pub returns-clause-comes : goal.returns-clause-comes
 returns-clause-comes c =
-    over-all (λ x g y. IfOk c.solve_for_values-maker.result.1 (λ s. IsSolvedBefore x g c.args.predicate c.args.count y s.verdict)) _ _ _ _ _ _ c.apart-maker.ensures.context c.apart-maker.ensures.given c.with.ensures.context c.solve_for_values-maker.ensures.comes
+    over-all (λ x g y. IfOk c.solve_for_values-maker.result.1 (λ s. IsSolvedBefore x g c.args.predicate c.args.effort y s.verdict)) _ _ _ _ _ _ c.apart-maker.ensures.context c.apart-maker.ensures.given c.with.ensures.context c.solve_for_values-maker.ensures.comes
 
 pub returns-clause-sorts : goal.returns-clause-sorts
 returns-clause-sorts c = subst (λ (x : Context). IfOk c.solve_for_values-maker.result.1 (λ s. AreValues x.trees s.values.items)) (sym c.with.ensures.context) c.solve_for_values-maker.ensures.sorts

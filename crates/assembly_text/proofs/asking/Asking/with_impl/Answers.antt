@@ -42,5 +42,5 @@ returns-in-Ok-made-clause-found c =
     let later : c.look_at-made.result ≡ Ok c.in-Ok.later = search rules in
     let those : IsPairedHere first number c.args.of c.in-Ok.later.items = subst (λ r. IfOk r (λ v. IsPairedHere first number c.args.of v.items)) later c.look_at-made.ensures.paired in
     let paired : IsPairedHere first number c.args.of c.as_slice.result.now = subst (IsPairedHere first number c.args.of) (sym c.as_slice.ensures.value) those in
-    with-others c.with_pairs.result.1 c.args.count number c.args.of c.as_slice.result.now c.args.self c.forget_nodes.new.self told c.with_pairs.result.0 stays c.with_lines-asking.ensures.stays
+    with-others c.with_pairs.result.1 c.args.effort number c.args.of c.as_slice.result.now c.args.self c.forget_nodes.new.self told c.with_pairs.result.0 stays c.with_lines-asking.ensures.stays
     (adds-same _ (Ok tt) (string_bytes c.args.self.answer) c.look_at-made.new.self c.forget_nodes.new.self f.answer seen) lines paired c.with_pairs.ensures.found

@@ -24,6 +24,6 @@ returns-clause-found c =
     let r = c.compare-asking.result.1 in
     let new = string_bytes c.print_pair-made.new.self.answer in
     adds-same _ c.print_pair-made.result (string_bytes first.answer) c.print_pair-made.new.self c.forget_nodes.new.self c.forget_nodes.ensures.answer
-    (adds-pair first.scope.names first.given c.args.count first.scope.maker c.args.first c.args.second r c.print_pair-made.result (string_bytes first.answer) new asked.found asked.stopped
+    (adds-pair first.scope.names first.given c.args.effort first.scope.maker c.args.first c.args.second r c.print_pair-made.result (string_bytes first.answer) new asked.found asked.stopped
     (adds-earlier first.scope.maker c.compare-asking.result.0.scope.maker first.scope.names.impls.items c.args.first c.args.second r c.print_pair-made.result (string_bytes first.answer) new asked.stays.grows
     (subst (λ (x : List ℕ × List NamedImpl). OnOk c.print_pair-made.result (AddsFound c.compare-asking.result.0.scope.maker x.1 c.args.first c.args.second r x.0 new)) (λ i. (string_bytes (asked.answer i), (asked.stays.names i).impls.items)) c.print_pair-made.ensures.printed)))

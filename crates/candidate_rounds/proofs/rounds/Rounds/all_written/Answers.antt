@@ -5,6 +5,7 @@ use Rattle.candidate_rounds.specs.Evaluators.Known.{table_of}
 use Rattle.candidate_rounds.specs.Table.Running.{IsRoundStop, round_looking}
 use Rattle.candidate_rounds.proofs.Stops.ResponseStops.{passed-on}
 use Rattle.candidate_rounds.proofs.Table.Running.{WrittenSoFar, none-written, one-more-written, round-stop-before, same-length, stays-trans}
+use Rattle.rounds_judge.specs.Table.Rounds.{IsFinalEntry}
 use Rattle.candidate_rounds.proofs.rounds.Rounds.all_written.Goals as goal
 
 pub returns-in_err-written_at-clause-cause : goal.returns-in_err-written_at-clause-cause
@@ -22,7 +23,7 @@ returns-in_err-push-clause-cause c =
     passed-on (IsRoundStop c.written_at.new.self.context.trees r (table_of r)) c.from_residual-in_err-push.result Memory c.from_residual-in_err-push.ensures.1 (round_looking refused_note)
 
 pub loop-place-init : goal.loop-place-init
-loop-place-init c = subst (WrittenSoFar c.args.self.now c.args.self.now 0) (sym c.new-list.ensures.items) (none-written c.args.self.now)
+loop-place-init c = subst (WrittenSoFar IsFinalEntry c.args.self.now c.args.self.now 0) (sym c.new-list.ensures.items) (none-written IsFinalEntry c.args.self.now)
 
 pub returns-in_err-written_at-clause-stays : goal.returns-in_err-written_at-clause-stays
 returns-in_err-written_at-clause-stays c = stays-trans c.loop-place.invariant.stays c.written_at.ensures.stays
@@ -38,6 +39,6 @@ loop-place-preserved c =
     let many = same-length c.args.self.now at.self at.invariant.table in
     let below : at.place < length at.self.goals.table = search rules in
     let next : suc at.place ≡ at.place + 1 = omega arith in
-    subst (λ n. WrittenSoFar c.args.self.now c.written_at.new.self n c.push.new.self.items) next
-    (subst (λ ws. WrittenSoFar c.args.self.now c.written_at.new.self (suc at.place) ws) (sym c.in_ok-push.ensures.items)
-    (one-more-written at.place at.list.items w at.invariant below said.stays said.table said.written))
+    subst (λ n. WrittenSoFar IsFinalEntry c.args.self.now c.written_at.new.self n c.push.new.self.items) next
+    (subst (λ ws. WrittenSoFar IsFinalEntry c.args.self.now c.written_at.new.self (suc at.place) ws) (sym c.in_ok-push.ensures.items)
+    (one-more-written IsFinalEntry at.place at.list.items w at.invariant below said.stays said.table said.written))

@@ -12,7 +12,7 @@ use Rattle.candidate_rounds.proofs.Stops.ResponseStops.{passed-growth}
 use Rattle.candidate_rounds.proofs.Table.Rounding.{place-written, round-written}
 use Rattle.candidate_rounds.proofs.Table.Running.{same-length, seen-length, written-length}
 use Rattle.candidate_rounds.proofs.Table.Tabled.{table-parts}
-use Rattle.rounds_judge.specs.Table.Rounds.{IsRound}
+use Rattle.rounds_judge.specs.Table.Rounds.{IsFinalEntry, IsRound}
 use Rattle.candidate_rounds.proofs.rounds.Rounds.round.Goals as goal
 
 pub copy_at-requires : goal.copy_at-requires
@@ -36,7 +36,7 @@ is_still-is_still-requires c =
     let said = c.in_ok-written.ensures in
     let n = c.all_written.new.self in
     ap length c.as_slice-2.ensures.value
-    ∙ (written-length n.context.trees (computing c.args.self.now) (table_of c.args.self.now) (table_of c.args.self.now) c.in_ok-written.written.items said.written
+    ∙ (written-length IsFinalEntry n.context.trees (computing c.args.self.now) (table_of c.args.self.now) (table_of c.args.self.now) c.in_ok-written.written.items said.written
     ∙ (seen-length c.args.self.now ∙ sym (same-length c.args.self.now n said.table)))
 
 pub write-requires : goal.write-requires
@@ -44,7 +44,7 @@ write-requires c =
     let r = c.args.self.now in
     let said = c.in_ok-written.ensures in
     let n = c.all_written.new.self in
-    written-length n.context.trees (computing r) (table_of r) (table_of r) c.in_ok-written.written.items said.written
+    written-length IsFinalEntry n.context.trees (computing r) (table_of r) (table_of r) c.in_ok-written.written.items said.written
     ∙ (seen-length r ∙ (sym (same-length r n said.table) ∙ sym (ap (λ (x : Evaluator). length x.goals.table) c.self.view_is)))
 
 pub returns-clause-round : goal.returns-clause-round
@@ -57,9 +57,9 @@ returns-clause-round c =
     let below : c.args.place < length c.all_written.new.self.goals.table = omega (arith, many, place) in
     let s = c.self.inside in
     let same = ap table_of c.self.view_is ∙ said.table in
-    let all = subst (λ (x : Evaluator). AreWritten x.context.trees (computing r) (table_of r) (table_of r) ws) (sym c.self.view_is) said.written in
+    let all = subst (λ (x : Evaluator). AreWritten IsFinalEntry x.context.trees (computing r) (table_of r) (table_of r) ws) (sym c.self.view_is) said.written in
     let left = ap (λ (g : Goals). table_seen c.self.inside.cx.trees g.table) c.write.ensures in
-    subst (IsRound (computing r) (table_of r)) (sym left) (round-written s.cx.trees (computing r) (table_of r) s.goals ws same all (parts c.self.invariant).tabled)
+    subst (IsRound (computing r) (table_of r)) (sym left) (round-written IsFinalEntry s.cx.trees (computing r) (table_of r) s.goals ws same all (parts c.self.invariant).tabled)
 
 pub returns-clause-sort : goal.returns-clause-sort
 returns-clause-sort c =
@@ -71,7 +71,7 @@ returns-clause-sort c =
     let below : c.args.place < length c.all_written.new.self.goals.table = omega (arith, many, place) in
     let s = c.self.inside in
     let same = ap table_of c.self.view_is ∙ said.table in
-    let all = subst (λ (x : Evaluator). AreWritten x.context.trees (computing r) (table_of r) (table_of r) ws) (sym c.self.view_is) said.written in
+    let all = subst (λ (x : Evaluator). AreWritten IsFinalEntry x.context.trees (computing r) (table_of r) (table_of r) ws) (sym c.self.view_is) said.written in
     let here = subst (λ (x : Evaluator). c.args.place < length x.goals.table) (sym c.self.view_is) below in
     let there = place-written s.cx.trees (computing r) (table_of r) s.goals ws same all c.args.place here c.requires.open in
     let got = ap (λ xs. slice_get xs c.args.place) c.as_slice.ensures.value ∙ there.there in
@@ -88,7 +88,7 @@ returns-clause-answer c =
     let below : c.args.place < length c.all_written.new.self.goals.table = omega (arith, many, place) in
     let s = c.self.inside in
     let same = ap table_of c.self.view_is ∙ said.table in
-    let all = subst (λ (x : Evaluator). AreWritten x.context.trees (computing r) (table_of r) (table_of r) ws) (sym c.self.view_is) said.written in
+    let all = subst (λ (x : Evaluator). AreWritten IsFinalEntry x.context.trees (computing r) (table_of r) (table_of r) ws) (sym c.self.view_is) said.written in
     let here = subst (λ (x : Evaluator). c.args.place < length x.goals.table) (sym c.self.view_is) below in
     let there = place-written s.cx.trees (computing r) (table_of r) s.goals ws same all c.args.place here c.requires.open in
     let got = ap (λ xs. slice_get xs c.args.place) c.as_slice.ensures.value ∙ there.there in
@@ -116,9 +116,9 @@ returns-clause-changes c = λ t e.
     let said = c.in_ok-written.ensures in
     let left = ap (λ (g : Goals). table_seen s.cx.trees g.table) c.write.ensures in
     let same = ap table_of c.self.view_is ∙ said.table in
-    let all = subst (λ (x : Evaluator). AreWritten x.context.trees (computing r) (table_of r) (table_of r) ws) (sym c.self.view_is) said.written in
-    let here = subst (λ T. AreWritten s.cx.trees (computing r) (table_of r) T ws) (sym same) all in
-    let are = are-verdicts s.cx.trees (computing r) (table_of r) s.goals.table ws (table-parts (parts c.self.invariant).tabled).entries here in
+    let all = subst (λ (x : Evaluator). AreWritten IsFinalEntry x.context.trees (computing r) (table_of r) (table_of r) ws) (sym c.self.view_is) said.written in
+    let here = subst (λ T. AreWritten IsFinalEntry s.cx.trees (computing r) (table_of r) T ws) (sym same) all in
+    let are = are-verdicts IsFinalEntry s.cx.trees (computing r) (table_of r) s.goals.table ws (table-parts (parts c.self.invariant).tabled).entries here in
     let n = c.all_written.new.self in
     let changes = subst (ChangeTableOf n.context.trees n.goals.table n.goals.asked) c.as_slice-2.ensures.value (c.is_still-is_still.ensures.other t) in
     subst (λ (x : Evaluator). ChangeTableOf x.context.trees x.goals.table x.goals.asked ws) (sym c.self.view_is) changes are (sym left ∙ (e ∙ sym same))
@@ -129,4 +129,4 @@ invariant_of-self c =
     let said = c.in_ok-written.ensures in
     let v : Evaluator = record { context = s.cx; mode = s.mode; normal = record { pairs = s.normal.items; is_open = s.opens }; opaques = s.opaques.items; goals = s.goals; inference = s.inference; marks = reverse s.probes.items } in
     subst (IsEvaluator s.cx s.inference (reverse s.probes.items) (record { pairs = s.normal.items; is_open = s.opens }) s.opaques.items) (sym c.write.ensures)
-    (left-evaluator c.args.self.now c.all_written.new.self v c.in_ok-written.written.items c.recall_trees_fit.ensures.fit c.recall_trees_fit.ensures.counted c.recall_well_kept.ensures c.self.view_is said.stays said.table said.written c.self.invariant)
+    (left-evaluator IsFinalEntry c.args.self.now c.all_written.new.self v c.in_ok-written.written.items c.recall_trees_fit.ensures.fit c.recall_trees_fit.ensures.counted c.recall_well_kept.ensures c.self.view_is said.stays said.table said.written c.self.invariant)

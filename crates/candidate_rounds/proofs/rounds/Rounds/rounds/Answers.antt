@@ -1,11 +1,15 @@
 use Rattle.std.proofs.Common.{◌≡◌, ◌+◌, suc, refl, sym, ◌∙◌, subst, arith}
 use Rattle.candidate_eval.specs.Interface.Noting.{refused_note}
 use Rattle.candidate_rounds.specs.Evaluators.Known.{table_of}
-use Rattle.candidate_rounds.specs.Table.Running.{IsRoundStop, round_looking}
+use Rattle.candidate_rounds.specs.Table.Running.{IsRoundStop, round_looking, verdict_at}
 use Rattle.candidate_rounds.proofs.Stops.ResponseStops.{passed-on}
 use Rattle.candidate_rounds.proofs.Table.Rounding.{RoundsOn, err-table, if-err, longer, no-rounds, none-needed, on-ok, one-more-on, ran-all, ran-final, ran-still, stopped-at-once, stopped-on}
 use Rattle.candidate_rounds.proofs.Table.Running.{round-stop-before, stays-refl, stays-trans}
+use Rattle.candidate_rounds.proofs.Table.Settled.{final-has-one}
 use Rattle.candidate_rounds.proofs.rounds.Rounds.rounds.Goals as goal
+
+pub verdict_at-requires-clause-some : goal.verdict_at-requires-clause-some
+verdict_at-requires-clause-some c = final-has-one (verdict_at (table_of c.args.self.now) c.args.place) (sym c.is_final_at.ensures ∙ c.if-is_final_at.true)
 
 pub returns-then-is_final_at-clause-stays : goal.returns-then-is_final_at-clause-stays
 returns-then-is_final_at-clause-stays c = stays-refl c.args.self.now

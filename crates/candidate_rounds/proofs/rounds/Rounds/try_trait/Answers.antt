@@ -1,8 +1,9 @@
-use Rattle.std.proofs.Common.{◌≡◌, true, None, Some, sym, ◌∙◌, subst}
+use Rattle.std.proofs.Common.{◌≡◌, true, None, Some, false, ap, sym, ◌∙◌, subst}
 use Rattle.std.proofs.lemmas.Result.{err_from_is_err_and}
 use Rattle.ir_trees.specs.Syntax.Words.{clause_tree, env_forest}
 use Rattle.candidate_eval.specs.Outcomes.ResponseTrees.{response_of}
 use Rattle.candidate_rounds.specs.Table.Goals.{goal_seen, key_seen}
+use Rattle.candidate_rounds.specs.Calls.Requesting.{asked_of}
 use Rattle.candidate_rounds.specs.Table.Trying.{answered_trait}
 use Rattle.candidate_rounds.specs.Evaluators.Known.{Evaluator, GoesOn, listing, reads, state}
 use Rattle.candidate_rounds.specs.Evaluators.Stopping.{IsGivingStop, IsTraitStop, held, of_asking, of_key}
@@ -39,7 +40,13 @@ returns-in_ok-request-in-Missing-clause-asked c = λ _.
     c.in_ok-request-in-Missing.ensures.asked ∙ requested-same c.args.self.now c.key_of.new.self c.recall_well_kept.ensures c.key_of.ensures.goes.0 c.key_of.ensures.goals _ _ c.in_ok-asked.ensures.key
 
 pub returns-in-Open-clause-asked : goal.returns-in-Open-clause-asked
-returns-in-Open-clause-asked c = λ _. none-requested c.args.self.now c.key_of.new.self c.recall_well_kept.ensures c.key_of.ensures.goes.0 c.key_of.ensures.goals _ _ c.in_ok-asked.ensures.key c.in-Open.ensures.0
+returns-in-Open-clause-asked c = λ _.
+    let mid = c.key_of.new.self in
+    let old = c.args.self.now in
+    ap asked_of c.note_look_up.ensures ∙ none-requested old mid c.recall_well_kept.ensures c.key_of.ensures.goes.0 c.key_of.ensures.goals _ _ c.in_ok-asked.ensures.key c.in-Open.ensures.0
+
+pub returns-in-Open-clause-goes : goal.returns-in-Open-clause-goes
+returns-in-Open-clause-goes c = subst (GoesOn c.args.self.now) (sym c.note_look_up.ensures) c.key_of.ensures.goes
 
 pub returns-in_ok-give-in-Yes-clause-asked : goal.returns-in_ok-give-in-Yes-clause-asked
 returns-in_ok-give-in-Yes-clause-asked c = λ t. given-not t
@@ -49,8 +56,9 @@ returns-in-Open-clause-ok c =
     let old = c.args.self.now in
     let mid = c.key_of.new.self in
     let asked = c.in_ok-asked.ensures in
-    asked-open (reads old) (reads mid) (state old) (state mid) (goal_seen old.context.trees c.args.goal) (key_seen mid.context.trees c.in_ok-asked.asked.key) c.in_ok-asked.asked.numbers.items
-    (goes-reads old mid c.key_of.ensures.goes c.recall_well_kept.ensures) c.key_of.ensures.state asked.key asked.numbers asked.bare c.in-Open.ensures.1
+    subst (λ (x : Evaluator). answered_trait (reads old) (state old) (goal_seen old.context.trees c.args.goal) ≡ Some (false, state x)) (sym c.note_look_up.ensures)
+    (asked-open (reads old) (reads mid) (state old) (state mid) (goal_seen old.context.trees c.args.goal) (key_seen mid.context.trees c.in_ok-asked.asked.key) c.in_ok-asked.asked.numbers.items
+    (goes-reads old mid c.key_of.ensures.goes c.recall_well_kept.ensures) c.key_of.ensures.state asked.key asked.numbers asked.bare c.in-Open.ensures.1)
 
 pub returns-in-Refused-clause-refused : goal.returns-in-Refused-clause-refused
 returns-in-Refused-clause-refused c = λ _.

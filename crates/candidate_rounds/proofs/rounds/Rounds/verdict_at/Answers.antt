@@ -5,7 +5,7 @@ use Rattle.candidate_rounds.specs.Table.Goals.{IsVerdict, verdict_seen}
 use Rattle.candidate_rounds.specs.Evaluators.Known.{Evaluator}
 use Rattle.candidate_rounds.proofs.Table.Running.{entry-at, verdict-get}
 use Rattle.candidate_assembly.proofs.Calls.Causes.{so-ok}
-use Rattle.rounds_judge.specs.Table.Verdicts.{is_final}
+use Rattle.candidate_eval.specs.Judges.States.{is_some}
 use Rattle.candidate_rounds.proofs.rounds.Rounds.verdict_at.Goals as goal
 
 pub unreachable-requires : goal.unreachable-requires
@@ -16,7 +16,7 @@ unreachable-requires c =
     let there : slice_get r.goals.table i ≡ Some e =
     sym (ap (λ (x : Evaluator). slice_get x.goals.table i) c.self.view_is) ∙ c.entry_at.ensures in
     let none = verdict-get r.context.trees r.goals.table i e there ∙ ap (option_map (verdict_seen r.context.trees)) c.in-None.is in
-    let clash = sym (ap is_final none) ∙ c.requires.is_final in
+    let clash = sym (ap is_some none) ∙ c.requires.some in
     cc
 
 pub returns-clause-sort : goal.returns-clause-sort

@@ -9,15 +9,15 @@ use Rattle.candidate_rounds.proofs.rounds.goals.Goals.ask.Goals as goal
 pub returns-then-contains_key-clause-asked : goal.returns-then-contains_key-clause-asked
 returns-then-contains_key-clause-asked c =
     let i = c.self.inside in
-    subst (λ (g : Goals). g ≡ noting g c.args.key) c.self.view_is (noted-already i.count i.entries.entries i.asks c.args.key (sym c.contains_key.ensures ∙ c.if-contains_key.true))
+    subst (λ (g : Goals). seen_of i.count i.entries.entries i.asks ≡ noting g c.args.key) c.self.view_is (noted-already i.count i.entries.entries i.asks c.args.key (sym c.contains_key.ensures ∙ c.if-contains_key.true))
 
-pub returns-then-len-ge-MAX_GOALS-clause-cause : goal.returns-then-len-ge-MAX_GOALS-clause-cause
-returns-then-len-ge-MAX_GOALS-clause-cause c =
+pub returns-then-place-ge-MAX_GOALS-clause-cause : goal.returns-then-place-ge-MAX_GOALS-clause-cause
+returns-then-place-ge-MAX_GOALS-clause-cause c =
     let i = c.self.inside in
     inr (
       refl,
       subst (λ (g : Goals). IsFullFor g c.args.key) c.self.view_is
-          (record { missing = noted-is i.count i.entries.entries i.asks c.args.key ∙ (sym c.contains_key.ensures ∙ c.if-contains_key.false); full = let many = as-many i.count i.entries.entries i.asks c.args.key c.self.invariant.enough in omega (arith, many, c.len.ensures.len, c.if-len-ge-MAX_GOALS.true) }),
+          (record { missing = noted-is i.count i.entries.entries i.asks c.args.key ∙ (sym c.contains_key.ensures ∙ c.if-contains_key.false); full = let many = as-many i.count i.entries.entries i.asks c.args.key c.self.invariant.enough in omega (arith, many, c.len-place.ensures.len, c.if-place-ge-MAX_GOALS.true) }),
     )
 
 pub invariant_of-self-2 : goal.invariant_of-self-2
@@ -49,4 +49,4 @@ pub returns-clause-room : goal.returns-clause-room
 returns-clause-room c =
     let i = c.self.inside in
     let many = as-many i.count i.entries.entries i.asks c.args.key c.self.invariant.enough in
-    subst (λ (g : Goals). HasRoomFor g c.args.key) c.self.view_is (λ n. omega (arith, many, c.len.ensures.len, c.if-len-ge-MAX_GOALS.false))
+    subst (λ (g : Goals). HasRoomFor g c.args.key) c.self.view_is (λ n. omega (arith, many, c.len-place.ensures.len, c.if-place-ge-MAX_GOALS.false))
