@@ -24,7 +24,7 @@ use Rattle.candidate_rounds.specs.declared.rounds.goals.Verdict.{Verdict}
 use Rattle.candidate_rounds.specs.declared.rounds.goals.Verdict.TheVariants as V
 use Rattle.candidate_rounds.specs.Table.Entries.{GoalEntry}
 use Rattle.candidate_rounds.specs.Table.KeyNumbers.{same_numbers}
-use Rattle.rounds_judge.specs.Table.GoalTable.{Entry, GoalTable, AreNew, may_be_asked, may_be_read, most_goals}
+use Rattle.rounds_judge.specs.Table.GoalTable.{Entry, GoalTable, AreNew, may_be_asked, may_be_read, most_goals, verdict_in}
 use Rattle.rounds_judge.specs.Table.Keys.{Key, trait_goal_of}
 use Rattle.rounds_judge.specs.Aliases.Listed.{Listing}
 use Rattle.rounds_judge.specs.Table.Verdicts as J
@@ -98,6 +98,10 @@ table_seen ts es = map (entry_seen ts) es
 abbrev pub unless_noted : {A : Type 0} → Bool → Option A → Option A
 unless_noted true v = None
 unless_noted false v = v
+
+-- Whether the first table has for the key what the second one has, but nothing where the key is noted.
+abbrev pub HasUnlessNoted : GoalTable Via → GoalTable Via → Key → Bool → Type 0
+HasUnlessNoted sure all k noted = verdict_in sure k ≡ unless_noted noted (verdict_in all k)
 
 abbrev pub without_noted : List Bool → GoalTable Via → GoalTable Via
 without_noted [] es = es

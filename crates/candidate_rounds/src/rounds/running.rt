@@ -15,7 +15,7 @@ ghost use Rattle.candidate_assembly.specs.Goals.TraitGoals.{trait_goal};
 ghost use Rattle.candidate_assembly.specs.Goals.TraitRules.{trait_rules};
 ghost use Rattle.candidate_eval.specs.Interface.Noting.{IsNotingStop};
 ghost use Rattle.candidate_eval.specs.Outcomes.ResponseTrees.{IsCopy};
-ghost use Rattle.candidate_rounds.specs.Table.Goals.{Each, IsEntryOf, IsKeyOf, IsTraitGoal, IsVerdict, Via, entry_of, entry_seen, goal_seen, key_seen, table_seen, unless_noted, verdict_seen};
+ghost use Rattle.candidate_rounds.specs.Table.Goals.{Each, IsEntryOf, IsKeyOf, IsTraitGoal, IsVerdict, Via, entry_of, entry_seen, goal_seen, key_seen, table_seen, verdict_seen, HasUnlessNoted};
 ghost use Rattle.candidate_rounds.specs.Evaluators.Known.{GoesOn, IsEvaluator, listing, probes, state, sure_of, table_of};
 ghost use Rattle.candidate_rounds.specs.Evaluators.Interface.{fixed, judge_of};
 ghost use Rattle.candidate_rounds.specs.Calls.Starting.{started};
@@ -843,7 +843,7 @@ impl Rounds {
         ensures stays { StaysBesideTable self.old self.new }
         ensures table { table_of self.new ≡ table_of self.old }
         ensures sure { sure_of self.new ≡ sure_of self.old }
-        ensures is { let r = self.old in let k = key_at (state r) (trait_goal r.context.trees param_env predicate) in IfOk result (λ b. verdict_in (sure_of r) k ≡ unless_noted b (verdict_in (table_of r) k)) }
+        ensures is { let r = self.old in let k = key_at (state r) (trait_goal r.context.trees param_env predicate) in IfOk result (HasUnlessNoted (sure_of r) (table_of r) k) }
         ensures cause { IfErr result (λ s. IsGoalKeyStop self.new.context.trees (state self.old) (trait_goal self.old.context.trees param_env predicate) s) }
     {
         self.recall_well_kept();
