@@ -405,7 +405,7 @@ class Rows:
             # The rounds before one that stops stay.
             _, most, goal = row.split(" ", 2)
             yield UNANSWERED, [*before, row, *behind], 1
-            for rounds in range(1, min(int(most), MAX_ROUNDS)):
+            for rounds in range(1, MAX_ROUNDS if most == "*" else min(int(most), MAX_ROUNDS)):
                 yield "stopped in a later round", [*before, "run %d %s" % (rounds, goal), *behind], 1
         elif verb == "pick":
             yield "left a variable", [*before, "fresh T", *behind], 1
