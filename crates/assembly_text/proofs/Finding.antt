@@ -30,6 +30,7 @@ use Rattle.assembly_text.specs.Paired.{IsPairedHere}
 use Rattle.assembly_text.specs.Efforts.{effort_of_line}
 use Rattle.assembly_notation.proofs.Giving.{take-extends}
 use Rattle.candidate_rounds.specs.declared.rounds.effort.Effort.{Effort}
+use Rattle.candidate_rounds.specs.declared.rounds.effort.Effort.TheVariants.{AsNeeded}
 
 -- Declared contexts.
 
@@ -206,7 +207,7 @@ line-more i j n a b c s is before h =
     (λ xs ys p q.
     subst (λ k. SaysOfLines a.scope.names a.scope.maker a.given i k (xs ++ ys)) next
     (and_line j p is
-    (subst (λ (x : Names × Given). SaysOfLine x.0 a.scope.maker x.1 i j ys) (λ k. (s.names k, s.given k)) (line-before b.scope.names b.given 0 a.scope.maker b.scope.maker s.grows i j ys q))))
+    (subst (λ (x : Names × Given). SaysOfLine x.0 a.scope.maker x.1 i j ys) (λ k. (s.names k, s.given k)) (line-before b.scope.names b.given AsNeeded a.scope.maker b.scope.maker s.grows i j ys q))))
     before h
 
 -- an impl alone, its lines, and then with others

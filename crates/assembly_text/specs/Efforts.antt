@@ -1,5 +1,5 @@
 -- How long goals are computed, as a line says it.
-use Rattle.std.specs.Prelude.{ℕ, List, [], ◌∷◌, if◌then◌else◌}
+use Rattle.std.specs.Prelude.{ℕ, List, [], ◌∷◌, nat_eq, if◌then◌else◌}
 use Rattle.std.specs.Cmp.Lexicographic.{pointwise}
 use Rattle.assembly_notation.specs.Lines.{first_word, number_of_digits}
 use Rattle.candidate_rounds.specs.declared.rounds.effort.Effort.{Effort}

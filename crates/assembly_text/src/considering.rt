@@ -82,14 +82,27 @@ fn listed_last(
     ensures { Grows rounds.old.context rounds.new.context }
 {
     match effort {
-        Effort::Rounds(1) => {}
+        Effort::Rounds(1) => list_here(alloc, rounds, env, predicate),
         Effort::Rounds(count) => {
-            run(alloc, rounds, env, predicate, Effort::Rounds(count - 1))?;
+            listed_after(alloc, rounds, env, predicate, Effort::Rounds(count - 1))
         }
-        Effort::AsNeeded => {
-            run(alloc, rounds, env, predicate, effort)?;
-        }
+        Effort::AsNeeded => listed_after(alloc, rounds, env, predicate, effort),
     }
+}
+
+/// The candidates that a round lists for a goal which was run by that effort.
+fn listed_after(
+    alloc: Global,
+    rounds: &mut Rounds,
+    env: ParamEnv,
+    predicate: TraitPredicate,
+    effort: Effort,
+) -> Result<Vec<Listed>, Stop>
+    requires some { IsEffort effort }
+    requires goal { IsGoal trait_kind rounds.old.context env predicate }
+    ensures { Grows rounds.old.context rounds.new.context }
+{
+    run(alloc, rounds, env, predicate, effort)?;
     list_here(alloc, rounds, env, predicate)
 }
 

@@ -73,14 +73,24 @@ fn listed_last(
 ) -> Result<Vec<Listed>, Stop>
 {
     match effort {
-        Effort::Rounds(1) => {}
+        Effort::Rounds(1) => list_here(alloc, rounds, env, predicate),
         Effort::Rounds(count) => {
-            run(alloc, rounds, env, predicate, Effort::Rounds(count - 1))?;
+            listed_after(alloc, rounds, env, predicate, Effort::Rounds(count - 1))
         }
-        Effort::AsNeeded => {
-            run(alloc, rounds, env, predicate, effort)?;
-        }
+        Effort::AsNeeded => listed_after(alloc, rounds, env, predicate, effort),
     }
+}
+
+/// The candidates that a round lists for a goal which was run by that effort.
+fn listed_after(
+    alloc: Global,
+    rounds: &mut Rounds,
+    env: ParamEnv,
+    predicate: TraitPredicate,
+    effort: Effort,
+) -> Result<Vec<Listed>, Stop>
+{
+    run(alloc, rounds, env, predicate, effort)?;
     list_here(alloc, rounds, env, predicate)
 }
 
