@@ -1,9 +1,9 @@
 #!/usr/bin/env python3
-"""Plain Rust out of the sources of the program `assembly`, to be measured beside it.
+"""Plain Rust out of the sources of the programs `assembly` and `rilgomut`, to be measured beside them.
 
 `python3 bench/plain.py FOLDER` takes all that is said of proofs away from the crates that the program is made of (`ghost` items and
 members, `requires` and `ensures`, `tactic` and `cycle`), writes what is left into the folder, and compiles it with `rustc` over
-`bench/plain/kit.rs`, which has by Rust's own std what they use of the kit's. The program is `FOLDER/assembly`. It then lets it answer the
+`bench/plain/kit.rs`, which has by Rust's own std what they use of the kit's. The programs are `FOLDER/assembly` and `FOLDER/rilgomut`. It then lets them answer the
 stored run and all texts in `crates/texts/data`, and says how many. It stops where an answer is another, and where there is no text.
 `texts.py` builds the programs of rows in the same way.
 
@@ -31,6 +31,9 @@ KIT = os.path.join(ROOT, "bench", "plain", "kit.rs")
 SPELLING = "spelling"  # stands beside the program, for who calls the libraries
 FACADE = "candidate_ir"  # the paths of its inner crates, for who calls the libraries
 PROGRAM = "assembly"
+
+# The program with arguments, which is made beside it.
+FOR_PEOPLE = "rilgomut"
 RUST = os.path.join(ROOT, "rust")
 FLAGS = ["--edition", "2021", "-O", "-C", "codegen-units=1", "-A", "warnings"]
 
@@ -216,8 +219,8 @@ def build_over(folder, root, library):
 
 
 def build(folder):
-    """The plain program `assembly`, which is made in the folder."""
-    return build_all(folder, [PROGRAM], above=[FACADE])[0]
+    """The plain program `assembly`, which is made in the folder, and `rilgomut` beside it."""
+    return build_all(folder, [PROGRAM, FOR_PEOPLE], above=[FACADE])[0]
 
 
 def held_prelude():
@@ -241,7 +244,8 @@ ARGUMENTS = [
 
 
 def check_arguments(program):
-    """Stops where the program does something else with such arguments."""
+    """Stops where the program beside this one does something else with such arguments."""
+    program = texts.program_with_arguments(program)
     for words, status, output, said in ARGUMENTS:
         done = subprocess.run([program, *words], stdin=subprocess.DEVNULL, capture_output=True)
         if (done.returncode, done.stderr.count(b"\n")) != (status, said) or not done.stdout.startswith(output) or not output and done.stdout:
@@ -250,7 +254,8 @@ def check_arguments(program):
 
 
 def check_files(program):
-    """Stops where the program reads two files otherwise than as one text."""
+    """Stops where the program beside this one reads two files otherwise than as one text."""
+    program = texts.program_with_arguments(program)
     text, _, answers = stored_run()
     with tempfile.TemporaryDirectory() as folder:
         paths = [os.path.join(folder, name) for name in ("first", "second")]
@@ -301,7 +306,7 @@ def write_cargo(folder):
     held_prelude()
     uses = libraries()
     crates = []
-    for name in (PROGRAM, "texts", "examples", SPELLING, FACADE):
+    for name in (PROGRAM, FOR_PEOPLE, "texts", "examples", SPELLING, FACADE):
         in_order(name, uses, crates)
     plain_cargo.write_workspace(folder, ROOT, crates, uses, plain_with_docs, PRELUDE, KIT)
 

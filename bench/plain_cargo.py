@@ -1,6 +1,6 @@
 """The plain Rust of the sources as a Cargo workspace, for `plain.py FOLDER --cargo`, and for the folder `rust` (`plain.py --rust`).
 
-The workspace has a package for each library of the repository that the program needs, one for the program, `rilgomut` over all of them (by hand, in
+The workspace has a package for each library of the repository that the programs need, one for each program, `rilgomut` over all of them (by hand, in
 `rust/rilgomut`), `texts` that runs the texts of `crates/texts/data`, `rows` of `tests/rows`, and `kit` with what stands for the kit's std. Doc
 comments are kept, so that `cargo doc --no-deps --open` shows what each call takes and answers. Each public type has `Debug`; each error has
 `Display` and `Error`. A debug build checks numbers (`plain_checks.py`). `cargo test` runs the stored texts and the rows.
@@ -17,8 +17,11 @@ VERSION = "0.1.0"
 # What is published, each by a name that no other package has. All others are for tests.
 PUBLISHED = "rilgomut-%s"
 FOR_TESTS = ("texts", "rows", "examples")
-PROGRAM = "assembly"
+PROGRAMS = ("assembly", "rilgomut")
 OWN = "rilgomut"
+
+# The folder, and so the package, of a crate whose name another one has.
+FOLDERS = {"rilgomut": "program"}
 
 # A feature of `kit`: growths are counted and, where a variable or a test says so, refused.
 GROWTHS = "\n[features]\ngrowths = []\n"
@@ -236,9 +239,14 @@ def write_kit(kit, to):
         put(to, MADE_OF % "bench/plain/kit.rs" + with_debug(given.read()) + with_errors("kit"))
 
 
+def folder_of(name):
+    """The folder of a crate in the workspace."""
+    return FOLDERS.get(name, name)
+
+
 def package_of(name):
     """The name of a crate's package."""
-    return name if name in FOR_TESTS else PUBLISHED % name.replace("_", "-")
+    return name if name in FOR_TESTS else PUBLISHED % folder_of(name).replace("_", "-")
 
 
 def named(uses):
@@ -254,9 +262,9 @@ def write_package(folder, name, told, uses, more=""):
         more += "publish = false\n"
     else:
         more = 'readme = "README.md"\n' + more
-        more += '\n[[bin]]\nname = "%s"\npath = "src/main.rs"\n' % name if name == PROGRAM else '\n[lib]\nname = "%s"\n' % name
+        more += '\n[[bin]]\nname = "%s"\npath = "src/main.rs"\ndoc = false\n' % name if name in PROGRAMS else '\n[lib]\nname = "%s"\n' % name
     words = {"package": package_of(name), "told": told, "more": more, "uses": depends}
-    put(os.path.join(folder, name, "Cargo.toml"), MANIFEST % words)
+    put(os.path.join(folder, folder_of(name), "Cargo.toml"), MANIFEST % words)
 
 
 def copy(of, to):
@@ -285,22 +293,22 @@ def write_rows(folder, root, uses):
 def write_page(folder, root, name, told):
     """The page of a package, and the licence beside it."""
     page = "# %s\n\n%s\n\nA part of [`rilgomut`](https://crates.io/crates/rilgomut), which has all that a user names.\n" % (package_of(name), told)
-    put(os.path.join(folder, name, "README.md"), page)
+    put(os.path.join(folder, folder_of(name), "README.md"), page)
     with open(os.path.join(root, "LICENSE")) as licence:
-        put(os.path.join(folder, name, "LICENSE"), licence.read())
+        put(os.path.join(folder, folder_of(name), "LICENSE"), licence.read())
 
 
 def workspace(crates, libraries):
     """The manifest of the workspace."""
     paths = ['%s = { path = "%s", version = "%s", package = "%s" }\n' % (name, name, VERSION, package_of(name)) for name in ["kit", *libraries]]
-    members = "".join('    "%s",\n' % name for name in ["kit", *crates, "rows", OWN])
+    members = "".join('    "%s",\n' % name for name in ["kit", *map(folder_of, crates), "rows", OWN])
     return WORKSPACE % {"members": members, "version": VERSION, "dependencies": "".join(paths)}
 
 
 def remove_others(folder, crates):
     """Removes what an earlier run left of these crates and this one doesn't write."""
     for name in crates:
-        for below, _, files in os.walk(os.path.join(folder, name)):
+        for below, _, files in os.walk(os.path.join(folder, folder_of(name))):
             for path in (os.path.abspath(os.path.join(below, file)) for file in files):
                 if path.endswith(".rs") and path not in WRITTEN:
                     os.remove(path)
@@ -315,7 +323,7 @@ def write_workspace(folder, root, crates, uses, plain, prelude, kit):
     libraries = [name for name in crates if os.path.exists(os.path.join(root, "crates", name, "src", "lib.rt"))]
     for name in crates:
         source = os.path.join(root, "crates", name, "src")
-        told = write_sources(name, source, os.path.join(folder, name, "src"), plain, prelude)
+        told = write_sources(name, source, os.path.join(folder, folder_of(name), "src"), plain, prelude)
         write_package(folder, name, told, ["kit", *(used for used in uses[name] if used in uses)])
         if name not in FOR_TESTS:
             write_page(folder, root, name, told)

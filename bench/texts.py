@@ -34,7 +34,7 @@ ANSWER = " => "
 
 # How a run ends that a bad line ends, and how runs end that read all their lines.
 BAD_LINE = 2
-ENDS = (0, 1, BAD_LINE)
+ENDS = (0, 1, BAD_LINE, 4)
 
 # What stands before a text's own lines: what it prints, what it says on the standard error, and how it ends.
 MARKS = ("> ", "! ", "= ")
@@ -148,8 +148,15 @@ def tested():
     return {file: texts for file, texts in found.items() if texts}
 
 
+def program_with_arguments(program):
+    """The program that takes arguments, which lies beside `assembly`."""
+    return os.path.join(os.path.dirname(program), "rilgomut")
+
+
 def run(program, text, argument=None):
-    """How a run over a text ended, what it printed, and what it said, where the program is given that argument; `FILE` is a file with the text."""
+    """How a run over a text ended, what it printed, and what it said; `FILE` is a file with the text. Where there is an argument it is given to
+    the program beside this one that takes arguments."""
+    program = program_with_arguments(program) if argument else program
     with tempfile.NamedTemporaryFile() as file:
         words = [argument] if argument else []
         if argument == "FILE":
@@ -239,7 +246,7 @@ def main():
     import plain
 
     with tempfile.TemporaryDirectory() as folder:
-        program = plain.build_all(asked.build or folder, [plain.PROGRAM], bool(asked.build))[0]
+        program = plain.build_all(asked.build or folder, [plain.PROGRAM, plain.FOR_PEOPLE], bool(asked.build))[0]
         changed, stuck = compare(program, asked.files or names(), asked.accept)
     is_well = check_counts(asked.accept)
     sys.exit(1 if stuck or not is_well or (changed and not asked.accept) else 0)

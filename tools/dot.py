@@ -1,10 +1,10 @@
 #!/usr/bin/env python3
 """Graphs of what `why` answers.
 
-    assembly --json TEXT | python3 tools/dot.py > GRAPH.dot
-    assembly --json TEXT | python3 tools/dot.py --svg GRAPH.svg
+    rilgomut --json TEXT | python3 tools/dot.py > GRAPH.dot
+    rilgomut --json TEXT | python3 tools/dot.py --svg GRAPH.svg
 
-It reads lines of JSON, as `assembly --json` prints them, from the standard input, and writes a graph for graphviz, with a part for each
+It reads lines of JSON, as `rilgomut --json` prints them, from the standard input, and writes a graph for graphviz, with a part for each
 answer to `why`. A step of a derivation is a node with its goal and by what that holds; an edge leads to it from each step that it rests on.
 Of goals that were asked for each is a node with what it came to. Why two impls overlap, or don't, is one node with its lines. Other lines are passed
 over. With `--svg` it has `dot` of graphviz draw the graph into

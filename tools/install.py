@@ -1,8 +1,8 @@
 #!/usr/bin/env python3
-"""Installs `cargo coherence`: `python3 tools/install.py` from a clone.
+"""Installs `cargo coherence` and `rilgomut`: `python3 tools/install.py` from a clone.
 
-It builds the program that decides, copies it with the Python package into a folder of the user, and puts the command `cargo-coherence` where cargo
-finds it. The clone isn't needed any more then. No network is used. What is missing is said in a line, which doesn't end it unless it is rustc.
+It builds the program that decides, copies it with the Python package into a folder of the user, and puts the commands `cargo-coherence` and
+`rilgomut` where cargo finds them. The clone isn't needed any more then. No network is used. What is missing is said in a line, which doesn't end it unless it is rustc.
 """
 
 import argparse
@@ -24,13 +24,14 @@ exec "%s" -c 'import sys; sys.path.insert(0, sys.argv.pop(1)); from cargo_cohere
 
 
 def install(folder: str, bin_folder: str, cache: str) -> str:
-    """Copies all that is needed into a folder, and answers the command. Raises `StepFailed`."""
+    """Copies all that is needed into a folder, and the program beside the command, which it answers. Raises `StepFailed`."""
     program = find_program(None, cache)
     package = os.path.join(folder, "cargo_coherence")
     shutil.rmtree(package, ignore_errors=True)
     shutil.copytree(os.path.join(HERE, "cargo_coherence"), package, ignore=shutil.ignore_patterns("__pycache__"))
-    shutil.copy2(program, os.path.join(folder, "assembly"))
     os.makedirs(bin_folder, exist_ok=True)
+    for place in (folder, bin_folder):
+        shutil.copy2(program, os.path.join(place, "rilgomut"))
     command = os.path.join(bin_folder, "cargo-coherence")
     with open(command, "w", encoding="utf-8") as file:
         file.write(LAUNCHER % (sys.executable, folder))

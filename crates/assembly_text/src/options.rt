@@ -7,6 +7,6 @@ pub struct Options {
     pub reasons: bool,
     /// Whether each answer, and what is said of a bad line, is an object of JSON in a line.
     pub json: bool,
-    /// Whether the status says that a check found something, and the standard error why a query stopped.
+    /// Whether the status says that a check found something or a query stopped, and the standard error why a query stopped.
     pub tells_more: bool,
 }

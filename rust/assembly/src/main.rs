@@ -1,71 +1,18 @@
 // Made of `crates/assembly/src/main.rt` by `bench/plain.py`: an edit of this file is lost.
 
-//! Reads declarations and queries, a line each, from files or from the standard input, and prints the answers.
+//! Reads declarations and queries from the standard input, a line each, and prints the answers. It passes over its arguments.
 
 use kit::{eprintln, format, prelude::*, print, println, vec};
-mod arguments;
-mod files;
-
-use arguments::{Asked, is_any_given, parse, words_of};
-use assembly_text::options::Options;
-use assembly_text::run::{Status, run_with};
-use files::open_all;
+use assembly_text::run::{Status, random_seed, run_text};
 use kit::process::ExitCode;
-use kit::random::RandomSource;
 
-/// A seed that nobody knows, or 0 where the system has none to give.
-fn random_seed(source: &impl RandomSource) -> u64 {
-    let mut bytes = [0u8; 8];
-    match source.fill_bytes(&mut bytes) {
-        Ok(()) => u64::from_le_bytes(bytes),
-        Err(_) => 0,
-    }
-}
-
-/// Ends the process so. Where a device failed, the standard error says so.
-fn ended(rt: &impl Eprint, status: Status) -> ExitCode {
+fn main() -> ExitCode {
+    let rt = HostRuntime;
+    let seed = random_seed(&rt);
+    let (input, output, errors) = (rt.stdin(), rt.stdout(), rt.stderr());
+    let status = run_text(rt.alloc(), seed, input, output, errors);
     if status == Status::DeviceFailed {
         let _ = eprintln!(rt; "input or output failed");
     }
     ExitCode::from(status as u8)
-}
-
-/// Ends the process before a line is read, with the first line of the reason on the standard error.
-fn refused(rt: &impl Eprint, reason: &str) -> ExitCode {
-    let reason = reason.lines().next().unwrap_or("");
-    let _ = eprintln!(rt; "{reason}");
-    ended(rt, Status::BadLine)
-}
-
-/// Ends the process with a text that was asked for.
-fn shown(rt: &(impl Print + Eprint), text: &str) -> ExitCode {
-    match print!(rt; "{text}") {
-        Ok(()) => ended(rt, Status::Done),
-        Err(_) => ended(rt, Status::DeviceFailed),
-    }
-}
-
-fn main() -> ExitCode {
-    let rt = HostRuntime;
-    let alloc = rt.alloc();
-    let seed = random_seed(&rt);
-    let (input, output, errors) = (rt.stdin(), rt.stdout(), rt.stderr());
-    if !is_any_given(&rt) {
-        let status = run_with(alloc, seed, Options::default(), input, output, errors);
-        return ended(&rt, status);
-    }
-    let Some(words) = words_of(&rt) else {
-        return refused(&rt, "error: the arguments can't be read");
-    };
-    let (options, names) = match parse(alloc, words.as_slice()) {
-        Asked::Run(options, names) => (options, names),
-        Asked::Text(text) => return shown(&rt, text.as_str()),
-        Asked::Nothing(reason) => return refused(&rt, reason.as_str()),
-    };
-    let status = match open_all(alloc, &rt, names.as_slice()) {
-        Ok(files) if files.is_empty() => run_with(alloc, seed, options, input, output, errors),
-        Ok(files) => run_with(alloc, seed, options, files, output, errors),
-        Err(reason) => return refused(&rt, reason.as_str()),
-    };
-    ended(&rt, status)
 }

@@ -17,6 +17,7 @@ use ir_trees::ir::stop::Stop;
 use kit::alloc::{AllocError, Global};
 use kit::io;
 use kit::io::{BufWriter, Read, Write};
+use kit::random::RandomSource;
 
 /// How a run ended; `status as u8` is the number that a process answers.
 #[derive(Clone, Copy, Debug, PartialEq, Eq)]
@@ -29,6 +30,17 @@ pub enum Status {
     BadLine = 2,
     /// The input or the output failed.
     DeviceFailed = 3,
+    /// All lines were read, and a query stopped, which was to be told.
+    Stopped = 4,
+}
+
+/// A seed that nobody knows, for a run, or 0 where the system has none to give.
+pub fn random_seed(source: &impl RandomSource) -> u64 {
+    let mut bytes = [0u8; 8];
+    match source.fill_bytes(&mut bytes) {
+        Ok(()) => u64::from_le_bytes(bytes),
+        Err(_) => 0,
+    }
 }
 
 /// Reads the lines of the input, and writes the answer to each query before a further line is read. Answers don't depend on the seed: with
@@ -133,6 +145,7 @@ fn run<R: Read + Drop, W: Write + Drop, E: Write + Drop>(
         output: buffer,
         errors,
         has_found: false,
+        has_stopped: false,
         asked_outside: None,
     };
     answers.answer_text(declarations.as_slice(), line, &mut input)
@@ -203,6 +216,8 @@ struct Answers<W: Write + Drop, E: Write + Drop> {
     errors: E,
     /// Whether a check found something.
     has_found: bool,
+    /// Whether a query stopped, or a part of a check.
+    has_stopped: bool,
     /// The number of the first line that asks outside coherence whether impls overlap.
     asked_outside: Option<u64>,
 }
@@ -264,10 +279,21 @@ impl<W: Write + Drop, E: Write + Drop> Answers<W, E> {
             }
         }
         self.hint();
-        if self.has_found && self.context.options.tells_more {
-            return Ok(Status::Found);
+        Ok(self.status())
+    }
+
+    /// How the run ends where all lines were read.
+    fn status(&self) -> Status {
+        if !self.context.options.tells_more {
+            return Status::Done;
         }
-        Ok(Status::Done)
+        if self.has_stopped {
+            return Status::Stopped;
+        }
+        if self.has_found {
+            return Status::Found;
+        }
+        Status::Done
     }
 
     /// Answers the query in the line, unless that is passed over. The status is there where no further line is to be read.
@@ -414,6 +440,7 @@ impl<W: Write + Drop, E: Write + Drop> Answers<W, E> {
 
     /// Tells why a query stopped, where that is asked for. A device that fails then is passed over.
     fn tell_stop(&mut self, line: u64, stop: Stop) {
+        self.has_stopped = true;
         if self.context.options.tells_more {
             let number = stop as u8;
             let words = words_of_stop(stop);

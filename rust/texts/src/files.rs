@@ -191,6 +191,7 @@ fn status_of(number: &str) -> Option<Status> {
         "0" => Some(Status::Done),
         "1" => Some(Status::Found),
         "2" => Some(Status::BadLine),
+        "4" => Some(Status::Stopped),
         _ => None,
     }
 }

@@ -1,4 +1,4 @@
-"""The program `assembly`: built where it isn't yet, and asked."""
+"""The program `rilgomut`: built where it isn't yet, and asked."""
 
 import glob
 import hashlib
@@ -12,7 +12,10 @@ from cargo_coherence.from_rustdoc.toolchain import StepFailed
 
 BESIDE = os.path.dirname(os.path.dirname(os.path.dirname(os.path.abspath(__file__))))  # where the Python package lies
 ROOT = os.path.dirname(BESIDE)  # the repository, if it lies in a clone
-INSTALLED = os.path.join(BESIDE, "assembly")
+INSTALLED = os.path.join(BESIDE, "rilgomut")
+
+# The statuses with which it ends where a line is bad or a device failed. All others answer each query.
+REFUSED = (2, 3)
 
 
 def find_program(given: Optional[str], cache: str) -> str:
@@ -28,7 +31,7 @@ def find_program(given: Optional[str], cache: str) -> str:
         with open(file, "rb") as source:
             digest.update(source.read())
     folder = os.path.join(cache, "program-" + digest.hexdigest()[:16])
-    program = os.path.join(folder, "assembly")
+    program = os.path.join(folder, "rilgomut")
     if not os.path.exists(program):
         print("building the program (once, about a minute)", file=sys.stderr)
         os.makedirs(folder, exist_ok=True)
@@ -44,7 +47,7 @@ def ask(program: str, text: str, queries: List[str], options: Sequence[str] = ()
     """The lines that the program answers behind a text. Raises `StepFailed`."""
     given = text + "\n".join(queries) + "\n"
     done = subprocess.run([program, *options], input=given, stdout=subprocess.PIPE, stderr=subprocess.PIPE, text=True, check=False)
-    if done.returncode > (1 if options else 0):
+    if done.returncode in REFUSED:
         reason = (done.stderr.strip() or done.stdout.strip() or "status %d" % done.returncode).splitlines()[0]
         raise StepFailed("the program refuses the text: %s" % reason)
     return done.stdout.splitlines()

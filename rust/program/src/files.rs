@@ -1,4 +1,4 @@
-// Made of `crates/assembly/src/files.rt` by `bench/plain.py`: an edit of this file is lost.
+// Made of `crates/rilgomut/src/files.rt` by `bench/plain.py`: an edit of this file is lost.
 
 //! Files, one after the other, as one text.
 

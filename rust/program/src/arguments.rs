@@ -1,10 +1,13 @@
+// Made of `crates/rilgomut/src/arguments.rt` by `bench/plain.py`: an edit of this file is lost.
+
 //! What the program's arguments ask for.
 
+use kit::{eprintln, format, prelude::*, print, println, vec};
 use assembly_text::help::add_help;
 use assembly_text::options::Options;
-use clap::{Arg, ArgAction, ArgMatches, Command, Error};
-use std::alloc::{Alloc, Global};
-use std::env::{Env, FillError, args};
+use kit::clap::{Arg, ArgAction, ArgMatches, Command, Error};
+use kit::alloc::{Alloc, Global};
+use kit::env::{Env, args};
 
 const VERSION: &str = "0.1.0, after rustc_next_trait_solver 0.166.0";
 
@@ -18,13 +21,13 @@ Statuses:
   1  the same, and `check` found something
   2  a line or an argument is bad, or a file can't be opened
   3  a device failed while it was read or written
-Without any argument `check` gives no status of its own.
+  4  all lines were read, and a query stopped without an answer
 
 Lines, the words that may stand at each place of one, and at all further places:
 ";
 
 /// What the arguments ask for.
-#[derive(Drop)]
+#[derive(Debug)]
 pub enum Asked {
     /// A run with these options, over the files of these names, or over the standard input where there is none.
     Run(Options, Vec<String>),
@@ -34,15 +37,9 @@ pub enum Asked {
     Nothing(String),
 }
 
-/// Whether the program has an argument besides its name.
-pub fn is_any_given(env: &impl Env) -> bool {
-    let mut first = [0u8; 1];
-    !matches!(env.arg(1, &mut first), Err(FillError::NotPresent))
-}
-
 /// The program's name and its arguments, if they can be read.
 pub fn words_of<R: Env + Alloc<A = Global>>(rt: &R) -> Option<Vec<String>> {
-    args(rt).ok()?.collect(rt.alloc()).ok()
+    args(rt).ok()?.kit_collect(rt.alloc()).ok()
 }
 
 /// What the words ask for, of which the first one is the program's name.
@@ -83,9 +80,7 @@ fn matches_of<'a>(
         .long("reasons")
         .action(ArgAction::SetTrue)
         .help("Print the reasons behind each answer");
-    Command::new(alloc, "assembly")
-        .display_name("rilgomut")?
-        .bin_name("assembly")?
+    Command::new(alloc, "rilgomut")
         .version(VERSION)
         .about(ABOUT)
         .after_help(further)
