@@ -269,6 +269,8 @@ class Commands(Case):
         done = subprocess.run(words, cwd=folder, stdout=subprocess.PIPE, stderr=subprocess.PIPE, text=True, env=dict(os.environ, PATH=path), check=False)
         self.assertEqual(done.stdout, "src/lib.rs:3:1: error[E0119]: conflicting implementations of trait `Show` for type `u8`\n", done.stderr)
         self.assertEqual(os.path.dirname(command), binaries)
+        told = subprocess.run([os.path.join(binaries, "rilgomut"), "--version"], stdout=subprocess.PIPE, text=True, check=True).stdout
+        self.assertTrue(told.startswith("rilgomut 0.1.0"), told)
 
 
 class Packages(Case):

@@ -30,6 +30,7 @@ from cargo_coherence.to_text.crates import said, translate  # noqa: E402
 from cargo_coherence.specialization.defaults import default_items  # noqa: E402
 from dot import graph_of, read_answers, spelled  # noqa: E402
 from cargo_coherence.ask.findings import Finding, Reasons, Teller, drained, read_findings  # noqa: E402
+from cargo_coherence.ask.program import ask  # noqa: E402
 from cargo_coherence.ask.goals import BadGoal, letters_between, read_goal  # noqa: E402
 from cargo_coherence.to_text.model import Place, Term, can_be_said  # noqa: E402
 from cargo_coherence.to_text.names import Names  # noqa: E402
@@ -542,9 +543,8 @@ class Texts(unittest.TestCase):
 
     @unittest.skipUnless(PROGRAM, "RILGOMUT_PROGRAM names no program")
     def test_program(self):
-        text = "\n".join(self.lines) + "\ncheck *\n"
-        done = subprocess.run([PROGRAM], input=text, stdout=subprocess.PIPE, text=True, check=True)
-        pairs = {tuple(word for word in line.split() if word.startswith("impl_")) for line in done.stdout.splitlines()}
+        printed = ask(PROGRAM, "\n".join(self.lines) + "\n", ["check *"])
+        pairs = {tuple(word for word in line.split() if word.startswith("impl_")) for line in printed}
         self.assertIn(("impl_user_3", "impl_user_4"), pairs)
         self.assertIn(("impl_user_7", "impl_user_8"), pairs)
 
