@@ -25,6 +25,7 @@ mod repeating;
 mod resolving;
 mod responding;
 pub mod running;
+mod searching;
 mod settling;
 mod standing;
 pub mod states;

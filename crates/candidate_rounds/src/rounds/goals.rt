@@ -191,6 +191,30 @@ impl Goals {
         self.entries.contains_key(key)
     }
 
+    /// Adds the places that another table has for the goals that were asked for, unless they are there. The only stop is `Stop::Memory`.
+    pub(crate) fn note_asked_in(&self, table: &Goals, places: &mut Vec<usize>) -> Result<(), Stop>
+        ensures { IfErr result (λ s. s ≡ Stop.Memory) }
+    {
+        for place in self.count..self.entries.len() {
+            if let Some((key, _)) = self.entries.get_index(place) {
+                table.note_place(key, places)?;
+            }
+        }
+        Ok(())
+    }
+
+    /// Adds the place of the goal, if the table has it and it isn't there. The only stop is `Stop::Memory`.
+    fn note_place(&self, key: &GoalKey, places: &mut Vec<usize>) -> Result<(), Stop>
+        ensures { IfErr result (λ s. s ≡ Stop.Memory) }
+    {
+        if let Some(place) = self.place_of(key) {
+            if !places.as_slice().contains(&place) {
+                places.push(place)?;
+            }
+        }
+        Ok(())
+    }
+
     /// Enters a goal that the table doesn't have, with what is known of it, after all others. The only stop is `Stop::Memory`.
     pub(crate) fn enter(&mut self, key: GoalKey, slot: Slot) -> Result<(), Stop>
         requires missing { list_any (same_numbers key) (keys_of self.old.table) ≡ false }

@@ -9,6 +9,7 @@ use crate::rounds::cleanness::has_error_region;
 use crate::rounds::goals::{GoalKey, Goals, MAX_GOALS, Slot, Verdict};
 use crate::rounds::keys::may_be_read;
 use crate::rounds::running::start_of;
+use crate::rounds::searching::Search;
 use crate::rounds::writing::is_same_response;
 use candidate_assembly::assembly::candidates::{
     FailedCandidateInfo, assemble_and_evaluate_candidates,
@@ -447,13 +448,15 @@ impl Rounds {
     }
 
     /// The step by which the goal of the key holds as the response says, where nothing but the goals of these steps does; `None` where
-    /// there is none.
+    /// there is none. What the goal asks for is added to `asked`, by the places in that table.
     fn step_for(
         &mut self,
         alloc: Global,
         steps: &[DerivationStep],
         key: &GoalKey,
         response: &CanonicalResponse,
+        goals: &Goals,
+        asked: &mut Vec<usize>,
     ) -> Result<Option<DerivationStep>, Stop>
     {
         let mut nested = Vec::new(alloc);
@@ -467,6 +470,7 @@ impl Rounds {
                     nested,
                 }));
             }
+            self.goals.note_asked_in(goals, asked)?;
             if !note_asked(&self.goals, steps, &mut nested)? {
                 return Ok(None);
             }
@@ -503,21 +507,24 @@ impl Rounds {
         alloc: Global,
         goals: &Goals,
         steps: Vec<DerivationStep>,
-        found: &mut Vec<bool>,
+        search: &mut Search,
         place: usize,
     ) -> Result<Vec<DerivationStep>, Stop>
     {
-        if is_marked(found.as_slice(), place) {
+        if !search.is_due(place) {
             return Ok(steps);
         }
         let Some((key, response)) = yes_of(goals, place) else {
             return Ok(steps);
         };
-        let Some(step) = self.step_for(alloc, steps.as_slice(), key, response)? else {
+        let mut asked = Vec::new(alloc);
+        let step = self.step_for(alloc, steps.as_slice(), key, response, goals, &mut asked)?;
+        let Some(step) = step else {
+            search.wait(alloc, place, asked.as_slice())?;
             return Ok(steps);
         };
         let step = self.with_fewest(alloc, steps.as_slice(), step)?;
-        mark(found, place);
+        search.note_found(place);
         let mut steps = steps;
         steps.push(step)?;
         Ok(steps)
@@ -529,12 +536,12 @@ impl Rounds {
         alloc: Global,
         goals: &Goals,
         steps: Vec<DerivationStep>,
-        found: &mut Vec<bool>,
+        search: &mut Search,
     ) -> Result<Vec<DerivationStep>, Stop>
     {
         let mut steps = steps;
         for place in 0..goals.len() {
-            steps = self.extended(alloc, goals, steps, found, place)?;
+            steps = self.extended(alloc, goals, steps, search, place)?;
         }
         Ok(steps)
     }
@@ -548,12 +555,12 @@ impl Rounds {
     ) -> Result<Option<Vec<DerivationStep>>, Stop>
     {
         self.recall_well_kept();
-        let mut found = vec![in alloc; false; goals.len()]?;
+        let mut search = Search::new(alloc, goals.len())?;
         let mut steps = Vec::new(alloc);
         for _pass in 0..goals.len() {
             let before = steps.len();
-            steps = self.all_extended(alloc, goals, steps, &mut found)?;
-            if is_marked(found.as_slice(), place) {
+            steps = self.all_extended(alloc, goals, steps, &mut search)?;
+            if search.is_found(place) {
                 return Ok(Some(steps));
             }
             if steps.len() == before {

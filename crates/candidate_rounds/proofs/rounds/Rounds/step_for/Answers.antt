@@ -31,6 +31,9 @@ returns-in_err-copied-2-clause-stays c = stays-trans c.loop-more.invariant c.can
 pub returns-in-Some-clause-stays : goal.returns-in-Some-clause-stays
 returns-in-Some-clause-stays c = stays-trans c.loop-more.invariant c.candidates_by.ensures.stays
 
+pub returns-in_err-note_asked_in-clause-stays : goal.returns-in_err-note_asked_in-clause-stays
+returns-in_err-note_asked_in-clause-stays c = stays-trans c.loop-more.invariant c.candidates_by.ensures.stays
+
 pub returns-in_err-note_asked-clause-stays : goal.returns-in_err-note_asked-clause-stays
 returns-in_err-note_asked-clause-stays c = stays-trans c.loop-more.invariant c.candidates_by.ensures.stays
 
@@ -61,6 +64,9 @@ returns-in_err-copied-clause-cause c = passed-on (IsSearchStop c.candidates_by.n
 
 pub returns-in_err-copied-2-clause-cause : goal.returns-in_err-copied-2-clause-cause
 returns-in_err-copied-2-clause-cause c = passed-on (IsSearchStop c.candidates_by.new.self.context.trees c.args.self.now) c.from_residual-in_err-copied-2.result Memory c.from_residual-in_err-copied-2.ensures.1 search_memory
+
+pub returns-in_err-note_asked_in-clause-cause : goal.returns-in_err-note_asked_in-clause-cause
+returns-in_err-note_asked_in-clause-cause c = passed-on (IsSearchStop c.candidates_by.new.self.context.trees c.args.self.now) c.from_residual-in_err-note_asked_in.result c.in_err-note_asked_in.field-0.0 c.from_residual-in_err-note_asked_in.ensures.1 (memory-search c.in_err-note_asked_in.ensures)
 
 pub returns-in_err-note_asked-clause-cause : goal.returns-in_err-note_asked-clause-cause
 returns-in_err-note_asked-clause-cause c = passed-on (IsSearchStop c.candidates_by.new.self.context.trees c.args.self.now) c.from_residual-in_err-note_asked.result c.in_err-note_asked.field-0.0 c.from_residual-in_err-note_asked.ensures.1 (memory-search c.in_err-note_asked.ensures)
