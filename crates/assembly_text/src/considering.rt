@@ -9,7 +9,7 @@ ghost use Rattle.assembly_text.specs.Solving.{IsReadGoal, IsSolvedBefore};
 ghost use Rattle.candidate_rounds.specs.Table.Efforts.{IsEffort};
 
 use crate::explaining::is_final;
-use crate::solving::{context_of, environment, evaluator, run, solve};
+use crate::solving::{context_of, environment, evaluator, run, solve, step};
 use assembly_notation::given::Given;
 use candidate_eval::eval::certainty::Certainty;
 use candidate_eval::eval::response::Candidate;
@@ -119,8 +119,7 @@ fn listed_finally(
 {
     for _before in 1..effort.most_rounds() {
         let list = list_here(alloc, rounds, env, predicate)?;
-        let verdict = run(alloc, rounds, env, predicate, Effort::Rounds(1))?;
-        if is_final(verdict.as_ref()) {
+        if step(alloc, rounds, env, predicate)? {
             return Ok(list);
         }
     }

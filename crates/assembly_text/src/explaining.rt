@@ -14,7 +14,7 @@ ghost use Rattle.candidate_rounds.specs.Table.Efforts.{IsEffort};
 
 use crate::openness::{Openness, look_at_open};
 use crate::printing::words_of_verdict;
-use crate::solving::{context_of, environment, evaluator, run};
+use crate::solving::{context_of, environment, evaluator, run, step};
 use assembly_notation::given::Given;
 use candidate_rounds::rounds::Rounds;
 use candidate_rounds::rounds::derivation::DerivationTree;
@@ -159,7 +159,7 @@ fn rounds_of_goals(
 {
     let mut since = Vec::new(alloc);
     for before in 0..effort.most_rounds() {
-        run(alloc, rounds, env, predicate, Effort::Rounds(1))?;
+        step(alloc, rounds, env, predicate)?;
         note_all(rounds, &mut since, before + 1)?;
         if are_noted(goals, since.as_slice()) {
             return Ok(since);

@@ -121,6 +121,21 @@ pub(crate) fn run(
     Ok(Some(rounds.run_by(alloc, env, predicate, effort)?))
 }
 
+/// One step for the goal, of those that are done as long as needed. Whether no more is needed is answered, as it is where the goal may not
+/// be run.
+pub(crate) fn step(
+    alloc: Global,
+    rounds: &mut Rounds,
+    env: ParamEnv,
+    predicate: TraitPredicate,
+) -> Result<bool, Stop>
+{
+    if !rounds.may_be_run(alloc, env, predicate)? {
+        return Ok(true);
+    }
+    rounds.run_step(alloc, env, predicate)
+}
+
 /// The environment of these clauses, with root variables made if the goal has variables; `None` where a bound variable escapes from the goal.
 pub(crate) fn environment(
     rounds: &mut Rounds,

@@ -53,7 +53,7 @@ place-after r t place w l =
     omega (arith, many, one, two, l)
 
 -- What is at rest for one evaluator is so for one before it, from which all stayed but the table.
-rest-before : {r s : Evaluator} → StaysBesideTable r s → (k : Key) (T : GoalTable Via) → IsAtRest (computing s) k T → IsAtRest (computing r) k T
+pub rest-before : {r s : Evaluator} → StaysBesideTable r s → (k : Key) (T : GoalTable Via) → IsAtRest (computing s) k T → IsAtRest (computing r) k T
 rest-before x k T (inl f) = inl f
 rest-before x k T (inr w) = inr (round-before x w)
 
@@ -108,13 +108,21 @@ used-up place count on e k p = record {
 }
 
 -- none was needed
-pub none-yet : (r s : Evaluator) → table_of s ≡ table_of r → (k : Key) → StepsWithin (computing r) k most_steps (table_of r) (table_of s)
+pub none-yet : {most : ℕ} (r s : Evaluator) → table_of s ≡ table_of r → (k : Key) → StepsWithin (computing r) k most (table_of r) (table_of s)
 none-yet r s same k = record { count = 0; within = omega arith; steps = subst (Steps (computing r) k 0 (table_of r)) (sym same) no_step }
 
-pub settled-already : (r : Evaluator) (place : ℕ) → is_final (verdict_at (table_of r) place) ≡ true → (k : Key) → IsPlaceOf (table_of r) k place → Settles (computing r) k most_steps (table_of r) (table_of r)
-settled-already r place f k p = record {
-  done = none-yet r r refl k;
-  ends = λ l. inl (ap is_final (place-verdict (table_of r) k place p) ∙ f);
+pub rest-already : (r : Evaluator) (place : ℕ) → is_final (verdict_at (table_of r) place) ≡ true → (k : Key) → IsPlaceOf (table_of r) k place → IsAtRest (computing r) k (table_of r)
+rest-already r place f k p = inl (ap is_final (place-verdict (table_of r) k place p) ∙ f)
+
+pub settled-already : {most : ℕ} (r : Evaluator) (place : ℕ) → is_final (verdict_at (table_of r) place) ≡ true → (k : Key) → IsPlaceOf (table_of r) k place → Settles (computing r) k most (table_of r) (table_of r)
+settled-already r place f k p = record { done = none-yet r r refl k; ends = λ l. rest-already r place f k p }
+
+-- one was done, and no more may be
+pub one-settles : (r t : Evaluator) (place : ℕ) → is_final (verdict_at (table_of r) place) ≡ false → IsStep (computing r) (table_of r) (table_of t) → (k : Key) → IsPlaceOf (table_of r) k place
+    → Settles (computing r) k 1 (table_of r) (table_of t)
+one-settles r t place f w k p = record {
+  done = record { count = 1; within = omega arith; steps = one_more no_step (ap is_final (place-verdict (table_of r) k place p) ∙ f) w };
+  ends = λ l. absurd (omega (arith, l));
 }
 
 -- a round that leaves the table as it was leaves it still

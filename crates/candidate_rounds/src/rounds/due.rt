@@ -56,6 +56,11 @@ impl LookUps {
         self.count = count;
     }
 
+    /// They are noted from now on, beside those that are there.
+    pub(crate) fn go_on(&mut self) {
+        self.are_noted = true;
+    }
+
     /// None is noted from now on.
     pub(crate) fn stop(&mut self) {
         self.are_noted = false;

@@ -433,6 +433,13 @@ impl Rounds {
         self.goals.note_look_ups();
     }
 
+    /// What goals look up is noted as before, until it is said anew whether goals are asked for.
+    fn go_on_noting(&mut self)
+        ensures { self.new ≡ self.old }
+    {
+        self.goals.go_on_noting();
+    }
+
     /// Chooses which goals are due, and answers whether some are.
     fn choose_due(&mut self) -> bool
         ensures { self.new ≡ self.old }
@@ -740,6 +747,58 @@ impl Rounds {
         self.set_asking(true);
         self.note_look_ups();
         let answer = self.settle_table(alloc, place);
+        self.set_asking(false);
+        self.recall_well_kept();
+        answer
+    }
+
+    /// One step for the goal of that place, unless it is final. It answers whether no more is needed. Where it stops the table stays as it
+    /// was.
+    fn step_unless_final(&mut self, alloc: Global, place: usize) -> Result<bool, Stop>
+        requires { place < length self.old.goals.table }
+        ensures stays { StaysBesideTable self.old self.new }
+        ensures settled { OnOk result ((k : Key) → IsPlaceOf (table_of self.old) k place → Settles (computing self.old) k 1 (table_of self.old) (table_of self.new)) }
+        ensures last { IfOk result (λ b. IsTrue b → (k : Key) → IsPlaceOf (table_of self.new) k place → IsAtRest (computing self.old) k (table_of self.new)) }
+        ensures stopped { OnErr result (table_of self.new ≡ table_of self.old) }
+        ensures cause { IfErr result (λ s. IsRoundStop self.new.context.trees self.old (table_of self.new) s) }
+    {
+        if self.is_final_at(place) {
+            return Ok(true);
+        }
+        self.next_step(alloc, place)
+    }
+
+    /// One step as `run_settled` does them, unless the goal is final, which is entered in the table if it isn't there. It answers whether
+    /// no more is needed: the goal is final, or a round left the table as it was.
+    ///
+    /// Its goals are those that are due by the steps before, as `run_settled` has them; where none is, and in a new evaluator, all that
+    /// aren't final. So one sees the table behind each step, and waits no longer than by `run_settled`.
+    ///
+    /// Where it stops the table is as it was, with the goal, if it was entered. What is known, what is pending and the open probes stay in
+    /// each case. It stops as `run` does.
+    pub fn run_step(
+        &mut self,
+        alloc: Global,
+        param_env: ParamEnv,
+        predicate: TraitPredicate,
+    ) -> Result<bool, Stop>
+        requires goal { IsGoal trait_kind self.old.context param_env predicate }
+        requires asked { may_be_asked (key_at (state self.old) (trait_goal self.old.context.trees param_env predicate)) ≡ true }
+        ensures stays { StaysBesideTable self.old self.new }
+        ensures settled { OnOk result (IsSettled (computing self.old) (key_at (state self.old) (trait_goal self.old.context.trees param_env predicate)) 1 (table_of self.old) (table_of self.new)) }
+        ensures last { let k = key_at (state self.old) (trait_goal self.old.context.trees param_env predicate) in IfOk result (λ b. IsTrue b → IsAtRest (computing self.old) k (table_of self.new)) }
+        ensures stopped { let k = key_at (state self.old) (trait_goal self.old.context.trees param_env predicate) in let T = table_of self.old in OnErr result ((table_of self.new ≡ T) ⊎ (table_of self.new ≡ entered_in T k)) }
+        ensures asked { self.new.goals.asked ≡ [] }
+        ensures asks { self.new.goals.asks ≡ false }
+        ensures derived { TableIsDerived self.new.context (listing self.new) (table_of self.new) }
+        ensures cause { IfErr result (λ s. IsRunStop self.new.context.trees self.old (trait_goal self.old.context.trees param_env predicate) (table_of self.new) s) }
+    {
+        self.recall_well_kept();
+        self.set_asking(false);
+        let place = self.enter_goal(alloc, param_env, predicate)?;
+        self.set_asking(true);
+        self.go_on_noting();
+        let answer = self.step_unless_final(alloc, place);
         self.set_asking(false);
         self.recall_well_kept();
         answer

@@ -221,6 +221,12 @@ impl Goals {
         self.look_ups.start(self.count);
     }
 
+    /// What goals look up is noted from now on, beside what was noted before.
+    pub(crate) fn go_on_noting(&mut self)
+    {
+        self.look_ups.go_on();
+    }
+
     /// The goal of that place is computed from now on: it looks up what is noted.
     pub(crate) fn set_reader(&mut self, place: usize)
     {

@@ -309,6 +309,12 @@ impl Rounds {
         self.goals.note_look_ups();
     }
 
+    /// What goals look up is noted as before, until it is said anew whether goals are asked for.
+    fn go_on_noting(&mut self)
+    {
+        self.goals.go_on_noting();
+    }
+
     /// Chooses which goals are due, and answers whether some are.
     fn choose_due(&mut self) -> bool
     {
@@ -516,6 +522,44 @@ impl Rounds {
         self.set_asking(true);
         self.note_look_ups();
         let answer = self.settle_table(alloc, place);
+        self.set_asking(false);
+        self.recall_well_kept();
+        answer
+    }
+
+    /// One step for the goal of that place, unless it is final. It answers whether no more is needed. Where it stops the table stays as it
+    /// was.
+    fn step_unless_final(&mut self, alloc: Global, place: usize) -> Result<bool, Stop>
+    {
+        if self.is_final_at(place) {
+            return Ok(true);
+        }
+        self.next_step(alloc, place)
+    }
+
+    /// One step as `run_settled` does them, unless the goal is final, which is entered in the table if it isn't there. It answers whether
+    /// no more is needed: the goal is final, or a round left the table as it was.
+    ///
+    /// Its goals are those that are due by the steps before, as `run_settled` has them; where none is, and in a new evaluator, all that
+    /// aren't final. So one sees the table behind each step, and waits no longer than by `run_settled`.
+    ///
+    /// Where it stops the table is as it was, with the goal, if it was entered. What is known, what is pending and the open probes stay in
+    /// each case. It stops as `run` does.
+    pub fn run_step(
+        &mut self,
+        alloc: Global,
+        param_env: ParamEnv,
+        predicate: TraitPredicate,
+    ) -> Result<bool, Stop>
+    {
+        debug_assert!(ir_trees::checks::is_sorted(ir_context::decl::make::Make::cx(&*self), param_env), "candidate_rounds::rounds::running::Rounds::run_step: `param_env` is {:?}, no number of its sort in this context", param_env);
+        debug_assert!(ir_trees::checks::is_sorted(ir_context::decl::make::Make::cx(&*self), predicate.trait_ref.args), "candidate_rounds::rounds::running::Rounds::run_step: `predicate.trait_ref.args` is {:?}, no number of its sort in this context", predicate.trait_ref.args);
+        self.recall_well_kept();
+        self.set_asking(false);
+        let place = self.enter_goal(alloc, param_env, predicate)?;
+        self.set_asking(true);
+        self.go_on_noting();
+        let answer = self.step_unless_final(alloc, place);
         self.set_asking(false);
         self.recall_well_kept();
         answer

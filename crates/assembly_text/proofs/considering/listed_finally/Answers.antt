@@ -8,21 +8,21 @@ loop-before-init c = (grows-refl _, c.requires)
 pub returns-in_err-list : goal.returns-in_err-list
 returns-in_err-list c = grows-trans _ _ _ c.loop-before.invariant.0 c.list_here.ensures
 
-pub run-requires-clause-goal : goal.run-requires-clause-goal
-run-requires-clause-goal c = (trait-goal-kept c.loop-before.rounds.context c.list_here.new.rounds.context c.args.env c.args.predicate c.list_here.ensures c.loop-before.invariant.1).0
+pub step-requires : goal.step-requires
+step-requires c = (trait-goal-kept c.loop-before.rounds.context c.list_here.new.rounds.context c.args.env c.args.predicate c.list_here.ensures c.loop-before.invariant.1).0
 
-pub returns-in_err-verdict : goal.returns-in_err-verdict
-returns-in_err-verdict c = grows-trans _ _ _ (grows-trans _ _ _ c.loop-before.invariant.0 c.list_here.ensures) c.run.ensures.grows
+pub returns-in_err-step : goal.returns-in_err-step
+returns-in_err-step c = grows-trans _ _ _ (grows-trans _ _ _ c.loop-before.invariant.0 c.list_here.ensures) c.step.ensures
 
 pub loop-before-preserved : goal.loop-before-preserved
 loop-before-preserved c =
-    let goes = grows-trans _ _ _ c.list_here.ensures c.run.ensures.grows in (
+    let goes = grows-trans _ _ _ c.list_here.ensures c.step.ensures in (
       grows-trans _ _ _ c.loop-before.invariant.0 goes,
-      (trait-goal-kept c.loop-before.rounds.context c.run.new.rounds.context c.args.env c.args.predicate goes c.loop-before.invariant.1).0,
+      (trait-goal-kept c.loop-before.rounds.context c.step.new.rounds.context c.args.env c.args.predicate goes c.loop-before.invariant.1).0,
     )
 
-pub returns-then-is_final : goal.returns-then-is_final
-returns-then-is_final c = grows-trans _ _ _ (grows-trans _ _ _ c.loop-before.invariant.0 c.list_here.ensures) c.run.ensures.grows
+pub returns-then-branch : goal.returns-then-branch
+returns-then-branch c = grows-trans _ _ _ (grows-trans _ _ _ c.loop-before.invariant.0 c.list_here.ensures) c.step.ensures
 
 pub returns : goal.returns
 returns c = grows-trans _ _ _ c.loop-before.invariant.0 c.list_here-2.ensures
