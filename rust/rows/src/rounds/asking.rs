@@ -83,7 +83,9 @@ pub fn answer(
             responded(alloc, rounds.make_canonical_response(alloc, asked))
         }
         "equal" => equal(alloc, rounds, of.left, of.right),
-        "run" | "entry" | "candidates" | "may_be_run" => tabling::answer(alloc, rounds, row, of),
+        "run" | "step" | "entry" | "candidates" | "may_be_run" => {
+            tabling::answer(alloc, rounds, row, of)
+        }
         "projection" => projecting::answer(alloc, rounds, row, of),
         "derivation" => explaining::answer(alloc, rounds, row, of),
         "consider" | "forced" | "characterize" | "about" | "passes" | "additional" => {

@@ -53,6 +53,20 @@ fn run(
     said(alloc, verdict)
 }
 
+/// Does one step for the goal, and says whether no more is needed. `Refusal::Condition` comes where the goal may not be run.
+fn step(
+    alloc: Global,
+    rounds: &mut Rounds,
+    env: ParamEnv,
+    predicate: TraitPredicate,
+) -> Result<Answer, Refusal> {
+    if !rounds.may_be_run(alloc, env, predicate)? {
+        return Err(Refusal::Condition);
+    }
+    let is_last = rounds.run_step(alloc, env, predicate)?;
+    Ok(Answer::One(Item::Truth(is_last)))
+}
+
 /// What the table has of the goal.
 fn entry(
     alloc: Global,
@@ -91,6 +105,7 @@ pub(crate) fn answer(
     let (env, predicate) = goal_at(rounds.cx(), of.left, of.right)?;
     match row.verb {
         "run" => run(alloc, rounds, row, env, predicate),
+        "step" => step(alloc, rounds, env, predicate),
         "entry" => entry(alloc, rounds, env, predicate),
         "candidates" => candidates(alloc, rounds, env, predicate),
         _ => {

@@ -54,7 +54,7 @@ const OVER_CONTEXT: [(&str, (usize, &str)); 25] = [
 ];
 
 /// The verbs that ask an evaluator, in the same way.
-const ASKING_EVALUATOR: [(&str, (usize, &str)); 51] = [
+const ASKING_EVALUATOR: [(&str, (usize, &str)); 52] = [
     ("let", (1, "")),
     ("rounds", (2, "")),
     ("leave", (0, "")),
@@ -69,6 +69,7 @@ const ASKING_EVALUATOR: [(&str, (usize, &str)); 51] = [
     ("normalize", (0, "")),
     ("known", (0, "")),
     ("run", (1, "")),
+    ("step", (0, "")),
     ("entry", (0, "")),
     ("may_be_run", (0, "")),
     ("candidates", (0, "")),
