@@ -1,5 +1,5 @@
 -- Fresh variables for open parts: each is of its part's kind.
-use Rattle.std.proofs.Common.{◌≡◌, ◌⊎◌, inl, inr, ℕ, Bool, true, false, if◌then◌else◌, Some, None, List, [], ◌∷◌, ◌++◌, ◌||◌, not, length, map, refl, sym, ap, subst, ◌∙◌}
+use Rattle.std.proofs.Common.{◌≡◌, ◌⊎◌, inl, inr, ℕ, Bool, true, false, if◌then◌else◌, Some, None, List, [], ◌∷◌, ◌++◌, ◌||◌, not, length, map, refl, sym, ap, subst, ◌∙◌, ◌==◌, suc, arith}
 use Rattle.ir_trees.specs.declared.ir.kinds.GenericArg.{GenericArg}
 use Rattle.ir_trees.specs.declared.ir.kinds.GenericArg.TheVariants as A
 use Rattle.ir_trees.specs.declared.ir.kinds.VarKind.{VarKind}
@@ -7,14 +7,14 @@ use Rattle.ir_trees.specs.declared.ir.stop.Stop.{Stop}
 use Rattle.ir_trees.specs.Declarations.Context.{Context, Grows}
 use Rattle.candidate_eval.specs.Interface.Evaluators.{kinds_listed}
 use Rattle.std.specs.List.{All}
-use Rattle.std.proofs.lemmas.Bool.{and_parts}
+use Rattle.std.proofs.lemmas.Bool.{and_parts, eqb-true}
 use Rattle.std.proofs.lemmas.List.{length-map}
 use Rattle.std.proofs.lemmas.List.Elements.{All-append, All-cons, All-head, All-nil, All-tail}
 use Rattle.ir_trees.specs.Instantiation.Folds.{node}
 use Rattle.ir_trees.specs.Syntax.Binders.{escapes}
 use Rattle.candidate_eval.specs.Judges.Lawful.{is_type_or_constant}
 use Rattle.candidate_rounds.specs.Table.Goals.{Each}
-use Rattle.rounds_judge.specs.Aliases.OpenParts.{first_or, has_loose_alias, is_among, is_closed_term, is_open_part, kinds_of, paired, with_part, with_parts}
+use Rattle.rounds_judge.specs.Aliases.OpenParts.{first_or, has_loose_alias, is_among, is_closed_term, is_open_part, kinds_of, opened, paired, with_part, with_parts}
 use Rattle.rounds_judge.specs.Aliases.Listed.{listed_in}
 use Rattle.candidate_rounds.specs.Evaluators.Inferences.{IsFullAt, IsOutOfRoom}
 use Rattle.candidate_rounds.specs.Evaluators.Stopping.{IsVariablesStop, variables_entered, variables_made}
@@ -25,9 +25,10 @@ use Rattle.ir_trees.specs.Instantiation.Folds.{IsArg, arg_tree, is_asked, is_ask
 use Rattle.ir_context.proofs.Hierarchy.Elaboration.{tree_is}
 use Rattle.ir_trees.specs.Syntax.Kinds.{arg_kind, arg_number}
 use Rattle.ir_trees.specs.Syntax.Nodes.{Extends, kind_at}
-use Rattle.ir_trees.specs.Syntax.Trees.{Forest, Kind, none, tree, Tree, is_alias, kind_of}
+use Rattle.ir_trees.specs.Syntax.Trees.{Forest, Kind, none, tree, Tree, holds, is_alias, kind_of}
 use Rattle.ir_trees.specs.Syntax.Words.{ListFits, list_forest}
 use Rattle.ir_folds.proofs.Hierarchy.Implying.{arg-kept}
+use Rattle.ir_trees.proofs.Instantiation.Folding.{fold-nothing}
 use Rattle.ir_trees.proofs.Syntax.Rows.{kind-of}
 use Rattle.candidate_eval.specs.Judges.States.{State, fresh_variables, variable, variable_kind, with_fresh}
 use Rattle.candidate_rounds.specs.Calls.Opening.{AreArgs, ArePaired, IsPair, opened_answers, pairs_at, trees_of}
@@ -168,3 +169,12 @@ opened-are ts xs ys k = λ i d t. at t (is_asked t.head) refl i
     at : (t : Tree) (b : Bool) → is_asked t.head ≡ b → (if b then listed_in (pairs_at ts xs ys) t else None) ≡ listed_in (pairs_at ts xs ys) t
     at t true e = refl
     at t false e = sym (unasked-none ts xs ys t k e)
+
+unmarked : (ts : Forest) → holds (λ h. false) ts ≡ false
+unmarked none = refl
+unmarked (tree h below rest) = ap (λ b. b || holds (λ h. false) rest) (unmarked below) ∙ unmarked rest
+
+-- Where there are no parts, trees are as they stand.
+pub none-opened : (ts : List Tree) (xs ys : List GenericArg) (f : Forest) → (length xs == 0) ≡ true → f ≡ opened (pairs_at ts xs ys) f
+none-opened ts [] ys f e = sym (fold-nothing (λ d u. listed_in [] u) (λ h. false) (λ d u q. refl) 0 f (unmarked f))
+none-opened ts (x ∷ xs) ys f e = let z = eqb-true (suc (length xs)) 0 e in absurd (omega (arith, z))

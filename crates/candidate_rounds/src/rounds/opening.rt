@@ -442,6 +442,9 @@ impl Rounds {
         ensures tree { let ts = self.old.context.trees in IfOk result (λ x. args_forest self.new.context.trees x ≡ opened (opened_pairs ts by.now) (args_forest ts list)) }
         ensures cause { let ts = self.old.context.trees in IfErr result (IsSubstStop (length self.new.context.trees) (opened (opened_pairs ts by.now) (args_forest ts list))) }
     {
+        if by.parts.as_slice().is_empty() {
+            return Ok(list);
+        }
         fold_answers(alloc, &mut self.cx, list, by)
     }
 

@@ -316,6 +316,9 @@ impl Rounds {
     /// The list with what stands in the place of open parts. It stops as `Rounds::resolve_ty_if_possible` does.
     fn opened(&mut self, alloc: Global, list: Args, by: &Opened) -> Result<Args, Stop>
     {
+        if by.parts.as_slice().is_empty() {
+            return Ok(list);
+        }
         fold_answers(alloc, &mut self.cx, list, by)
     }
 
