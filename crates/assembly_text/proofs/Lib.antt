@@ -3,6 +3,7 @@ pub mod Answered
 pub mod Checked
 pub mod Compared
 pub mod Finding
+pub mod Giving
 pub mod ListedPairs
 pub mod MayBeGiven
 pub mod Ordering

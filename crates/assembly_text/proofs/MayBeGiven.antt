@@ -1,8 +1,6 @@
--- What an evaluator is given, pair after pair, and the goals that a text asks for.
-use Rattle.std.proofs.Common.{◌≡◌, true, false, ◌∙◌, Some, map, List, [], ◌∷◌, ◌++◌, All, refl, sym, ap, subst}
-use Rattle.std.proofs.lemmas.List.{map-append}
-use Rattle.std.proofs.lemmas.List.Elements.{All-head, All-nil, All-push, All-tail}
-use Rattle.ir_trees.specs.declared.ir.kinds.Ty.{Ty}
+-- The clauses that an evaluator is given, and the goals that a text asks for.
+use Rattle.std.proofs.Common.{◌≡◌, false, ◌∙◌, Some, map, List, [], ◌∷◌, All, refl, sym, ap, subst}
+use Rattle.std.proofs.lemmas.List.Elements.{All-head, All-tail}
 use Rattle.ir_trees.specs.Syntax.Trees.{Tree}
 use Rattle.ir_trees.specs.declared.ir.kinds.Clause.{Clause}
 use Rattle.ir_trees.specs.Syntax.Binders.{escapes}
@@ -10,7 +8,7 @@ use Rattle.ir_trees.specs.Declarations.Context.{Context, Grows}
 use Rattle.ir_trees.specs.Syntax.Kinds.{numbers}
 use Rattle.ir_trees.specs.Syntax.Nodes.{clause_child, kinds_at}
 use Rattle.ir_trees.specs.Syntax.Trees.{ClauseKind, TypeKind, holds, is_param}
-use Rattle.ir_trees.specs.Syntax.Words.{ClauseListFits, IsClause, IsParamEnv, IsTy, args_forest, ty_tree}
+use Rattle.ir_trees.specs.Syntax.Words.{ClauseListFits, IsClause, IsParamEnv, args_forest}
 use Rattle.ir_trees.specs.Declarations.Worlds.{World, TraitSort, joined, kinds_of, parameters}
 use Rattle.ir_trees.proofs.Growth.Kept.{args-kept, header-kept, world-kept}
 use Rattle.ir_trees.specs.declared.ir.kinds.ParamEnv.{ParamEnv}
@@ -18,26 +16,9 @@ use Rattle.ir_trees.specs.declared.ir.kinds.TraitPredicate.{TraitPredicate}
 use Rattle.candidate_assembly.specs.Goals.Kinds.{IsGoal}
 use Rattle.candidate_assembly.specs.Goals.TraitGoals.{arguments_held, trait_goal, types_held}
 use Rattle.candidate_assembly.specs.Goals.TraitRules.{trait_rules}
-use Rattle.candidate_rounds.specs.Evaluators.Known.{AreTypes, Evaluator, IsGiven, pairs_of}
-use Rattle.candidate_rounds.proofs.Evaluators.Given.{listed-pair}
-use Rattle.candidate_rounds.proofs.Snapshots.Knowing.{each-append}
-use Rattle.rounds_judge.specs.Equations.Standing.{IsListed}
-use Rattle.rounds_judge.specs.Aliases.WellListed.{may_be_listed}
+use Rattle.candidate_rounds.specs.Evaluators.Known.{Evaluator}
 use Rattle.assembly_notation.specs.declared.given.Given.{Given}
-use Rattle.assembly_notation.specs.Given.{GivenFits}
-use Rattle.assembly_text.specs.Solving.{IsNewFor, IsReadGoal}
-
-pub given-none : (ts : List Tree) (ps : List (Ty × Ty)) → ps ≡ [] → IsGiven ts ps []
-given-none ts ps e = subst (λ (qs : List (Ty × Ty)). IsGiven ts qs []) (sym e) (record { types = tt; listing = All-nil IsListed; opaques_fit = tt; opaques_are = tt; opaques_hidden = tt })
-
-pub given-more : (ts : List Tree) (ps qs : List (Ty × Ty)) (a t : Ty) → IsGiven ts ps [] → IsTy ts a → IsTy ts t → may_be_listed (ty_tree ts a, ty_tree ts t) ≡ true → qs ≡ ps ++ (a, t) ∷ [] → IsGiven ts qs []
-given-more ts ps qs a t g i j m e = subst (λ (rs : List (Ty × Ty)). IsGiven ts rs []) (sym e) (record {
-  types = each-append (AreTypes ts) ps (a, t) g.types (i, j);
-  listing = subst (All IsListed) (sym (map-append (λ (p : Ty × Ty). (ty_tree ts p.0, ty_tree ts p.1)) ps ((a, t) ∷ []))) (All-push IsListed (pairs_of ts ps) (ty_tree ts a, ty_tree ts t) g.listing (listed-pair _ m));
-  opaques_fit = tt;
-  opaques_are = tt;
-  opaques_hidden = tt;
-})
+use Rattle.assembly_text.specs.Solving.{GivenIsListed, IsNewFor, IsReadGoal}
 
 -- clauses, each of the context, are a list of it
 pub clauses-fit : (ts : List Tree) (xs : List Clause) → All (IsClause ts) xs → ClauseListFits ts xs
@@ -46,9 +27,9 @@ clauses-fit ts (x ∷ xs) a =
     ap (λ k. k ∷ kinds_at ts (numbers (map clause_child xs))) (All-head (IsClause ts) x xs a) ∙ ap (λ ks. ClauseKind ∷ ks) (clauses-fit ts xs (All-tail (IsClause ts) x xs a))
 
 -- those that are given fit in an evaluator that is new for it
-pub clauses-of-new : (c : Context) (g : Given) (r : Evaluator) (xs : List Clause) → IsNewFor c g r → GivenFits c.trees g → xs ≡ g.clauses.items → ClauseListFits r.context.trees xs
+pub clauses-of-new : (c : Context) (g : Given) (r : Evaluator) (xs : List Clause) → IsNewFor c g r → GivenIsListed c.trees g → xs ≡ g.clauses.items → ClauseListFits r.context.trees xs
 clauses-of-new c g r xs made fits e =
-    subst (λ (x : Context). ClauseListFits x.trees xs) (sym made.context) (subst (ClauseListFits c.trees) (sym e) (clauses-fit c.trees g.clauses.items fits.clauses))
+    subst (λ (x : Context). ClauseListFits x.trees xs) (sym made.context) (subst (ClauseListFits c.trees) (sym e) (clauses-fit c.trees g.clauses.items fits.fits.clauses))
 
 -- A reference that a text gives is a goal, in an environment.
 pub goal-of : (old new : Context) (env : ParamEnv) (p : TraitPredicate) → Grows old new → IsParamEnv new.trees env → IsReadGoal old p → escapes 0 (args_forest old.trees p.trait_ref.args) ≡ false

@@ -1,5 +1,5 @@
 -- What a goal of a text comes to: an evaluator is made for it, and so many rounds at most are done.
-use Rattle.std.specs.Prelude.{◌≡◌, ℕ, zero, suc, true, false, Option, Some, None, List, [], ◌++◌, All, if◌then◌else◌}
+use Rattle.std.specs.Prelude.{◌≡◌, ℕ, zero, suc, true, false, Option, Some, None, List, [], ◌++◌, All, if◌then◌else◌, take}
 use Rattle.ir_trees.specs.declared.ir.kinds.Clause.{Clause}
 use Rattle.ir_trees.specs.declared.ir.kinds.ParamEnv.{ParamEnv}
 use Rattle.ir_trees.specs.declared.ir.kinds.TraitPredicate.{TraitPredicate}
@@ -9,7 +9,7 @@ use Rattle.ir_trees.specs.Declarations.References.{ArgumentsFit}
 use Rattle.ir_trees.specs.Instantiation.Owned.{is_unsolved}
 use Rattle.ir_trees.specs.Syntax.Binders.{escapes}
 use Rattle.ir_trees.specs.Syntax.Trees.{Forest, Tree, holds}
-use Rattle.ir_trees.specs.Syntax.Words.{IsArgs, IsParamEnv, IsTy, args_forest, clause_list_forest, env_forest}
+use Rattle.ir_trees.specs.Syntax.Words.{IsArgs, IsParamEnv, IsTy, args_forest, clause_list_forest, env_forest, ty_tree}
 use Rattle.ir_trees.specs.declared.ir.heads.VariableSort.TheVariants.{General}
 use Rattle.candidate_eval.specs.declared.eval.mode.TypingMode.{TypingMode}
 use Rattle.candidate_eval.specs.declared.eval.variable.VariableKind.TheVariants.{Term}
@@ -21,13 +21,29 @@ use Rattle.candidate_rounds.specs.Evaluators.Interface.{Fixed, fixed}
 use Rattle.candidate_rounds.specs.Evaluators.Known.{Evaluator, listing_of, state, table_of, with_root}
 use Rattle.candidate_rounds.specs.Table.Goals.{verdict_seen}
 use Rattle.candidate_rounds.specs.Table.Running.{StaysBesideTable, computing}
-use Rattle.rounds_judge.specs.Aliases.WellListed.{well_listed}
+use Rattle.rounds_judge.specs.Aliases.WellListed.{may_be_listed, well_listed}
 use Rattle.rounds_judge.specs.Table.GoalTable.{may_be_asked, verdict_in}
 use Rattle.rounds_judge.specs.Table.Keys.{Key, fresh_state, key_at}
 use Rattle.candidate_rounds.specs.Table.Efforts.{Runs}
 use Rattle.assembly_notation.specs.declared.given.Given.{Given}
+use Rattle.assembly_notation.specs.Given.{GivenFits}
 use Rattle.assembly_text.specs.Printing.{AddsVerdict, verdict_text}
 use Rattle.candidate_rounds.specs.declared.rounds.effort.Effort.{Effort}
+
+-- An alias that may be listed with the type beside it.
+pub record IsListedForm (ts : List Tree) (p : Ty × Ty) : Type 0 where
+  pub sort : IsTy ts p.0
+  pub ty : IsTy ts p.1
+  pub may_be : may_be_listed (ty_tree ts p.0, ty_tree ts p.1) ≡ true
+
+-- What is given is of the context, and each of its aliases may be listed, so that an evaluator may take them all.
+pub record GivenIsListed (ts : List Tree) (g : Given) : Type 0 where
+  pub fits : GivenFits ts g
+  pub listed : All (IsListedForm ts) g.normal_forms.items
+
+-- These nodes came with the declarations, so they are never taken back.
+abbrev pub ListedIsDeclared : Context → Given → Type 0
+ListedIsDeclared c g = GivenIsListed (take c.declared_nodes c.trees) g
 
 -- So many root variables more, for any types.
 abbrev pub with_roots : ℕ → State → State

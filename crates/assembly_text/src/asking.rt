@@ -10,7 +10,7 @@ ghost use Rattle.overlaps.specs.declared.overlap.Overlap.{Overlap};
 ghost use Rattle.overlaps.specs.declared.specializing.Specialization.{Specialization};
 ghost use Rattle.candidate_eval.specs.declared.coherence.Conflict.{Conflict};
 ghost use Rattle.candidate_rounds.specs.declared.rounds.goals.Verdict.{Verdict};
-ghost use Rattle.assembly_notation.specs.Given.{GivenFits, GivenIsDeclared};
+ghost use Rattle.assembly_notation.specs.Given.{GivenFits};
 ghost use Rattle.ir_trees.specs.Declarations.Context.{Grows};
 ghost use Rattle.assembly_text.specs.Asking.{AddsSomeCheck, AddsSomeGoal, AddsSomeKnown, AddsSomeNormal, AddsSomeValues, declared_part, names_all};
 ghost use Rattle.assembly_text.specs.Normalizing.{AddsNormal, IsNormal, IsNormalSolved, IsReadProjection};
@@ -19,7 +19,7 @@ ghost use Rattle.assembly_text.specs.Overlapping.{IsOverlapAnyway, IsOverlapSolv
 ghost use Rattle.assembly_text.specs.Specializing.{IsTestStopped, IsTested};
 ghost use Rattle.assembly_text.specs.Efforts.{effort_of_line};
 ghost use Rattle.assembly_notation.specs.Params.{Lacks};
-ghost use Rattle.assembly_text.specs.Solving.{AddsGoal, AddsGoalWithValues, AreValues, IsReadGoal, IsSolved, IsSolvedBefore};
+ghost use Rattle.assembly_text.specs.Solving.{AddsGoal, AddsGoalWithValues, AreValues, IsReadGoal, IsSolved, IsSolvedBefore, ListedIsDeclared};
 ghost use Rattle.candidate_eval.specs.Knowability.Calls.{plain_check_of, plain_knowledge_about, HasNoParam, HasNoAlias, HasNoAliasOrError, IsOfForeignTrait, NoForeignHeaderHere, NoUnnamedHeaderHere, NoCoveredHeaderHere, IsDecidedByGeneralHere, HasDownstreamHere};
 ghost use Rattle.candidate_rounds.specs.Table.Efforts.{IsEffort};
 
@@ -95,7 +95,7 @@ pub struct Asking<'a> {
     pub(crate) given: Given,
     /// Whether it is added to answers why they are so.
     pub(crate) reasons: bool,
-    pub ghost given_is_declared: { GivenIsDeclared scope.maker given },
+    pub ghost given_is_declared: { ListedIsDeclared scope.maker given },
 }
 
 /// All but the context, which a call has meanwhile.
@@ -111,7 +111,7 @@ pub(crate) struct Rest<'a> {
 impl<'a> Rest<'a> {
     /// Puts the context back, which may have grown.
     pub(crate) fn with(self, maker: Cx) -> Asking<'a>
-        requires { GivenIsDeclared maker self.given }
+        requires { ListedIsDeclared maker self.given }
         ensures context { result.scope.maker ≡ maker }
         ensures names { result.scope.names ≡ self.entry.names }
         ensures answer { result.answer ≡ self.entry.answer }
@@ -142,7 +142,7 @@ impl<'a> Rest<'a> {
 impl<'a> Asking<'a> {
     /// Over what is declared, and what queries take as given.
     pub fn new(scope: Scope<'a, Cx>, given: Given) -> Self
-        requires { GivenIsDeclared scope.maker given }
+        requires { ListedIsDeclared scope.maker given }
     {
         Asking {
             answer: String::new(scope.alloc),
@@ -194,7 +194,7 @@ impl<'a> Asking<'a> {
         ensures names { result.1.names ≡ self.entry.scope.names }
         ensures answer { result.1.answer ≡ self.entry.answer }
         ensures given { result.1.given ≡ self.entry.given }
-        ensures given_is_declared { GivenIsDeclared result.0 result.1.given }
+        ensures given_is_declared { ListedIsDeclared result.0 result.1.given }
     {
         let Asking {
             scope,

@@ -4,8 +4,7 @@ ghost use Rattle.std.specs.Prelude.{◌≡◌, ◌<◌, IfOk};
 ghost use Rattle.ir_trees.specs.Declarations.Context.{Grows};
 ghost use Rattle.ir_trees.specs.Syntax.Words.{ClauseListFits};
 ghost use Rattle.candidate_assembly.specs.Goals.KindShown.{IsGoal, trait_kind};
-ghost use Rattle.assembly_notation.specs.Given.{GivenFits};
-ghost use Rattle.assembly_text.specs.Solving.{IsReadGoal, IsSolvedBefore};
+ghost use Rattle.assembly_text.specs.Solving.{IsReadGoal, IsSolvedBefore, GivenIsListed};
 ghost use Rattle.candidate_rounds.specs.Table.Efforts.{IsEffort};
 
 use crate::explaining::is_final;
@@ -157,7 +156,7 @@ fn list(
     is_final: bool,
 ) -> (Cx, Result<Vec<Listed>, Stop>)
     requires some { IsEffort effort }
-    requires given { GivenFits cx.trees given.now }
+    requires given { GivenIsListed cx.trees given.now }
     requires read { IsReadGoal cx predicate }
     ensures { Grows cx result.0 }
 {
@@ -181,7 +180,7 @@ pub fn consider(
     effort: Effort,
 ) -> (Cx, Result<Considered, Stop>)
     requires some { IsEffort effort }
-    requires given { GivenFits cx.trees given.now }
+    requires given { GivenIsListed cx.trees given.now }
     requires read { IsReadGoal cx predicate }
     ensures grows { Grows cx result.0 }
     ensures comes { IfOk result.1 (λ x. IsSolvedBefore cx given.now predicate effort result.0 x.verdict) }

@@ -8,8 +8,7 @@ ghost use Rattle.ir_trees.specs.Syntax.Words.{ClauseListFits, IsArgs};
 ghost use Rattle.candidate_assembly.specs.Goals.KindShown.{IsGoal, trait_kind};
 ghost use Rattle.candidate_rounds.specs.Table.Goals.{IsTraitGoal, IsVerdict};
 ghost use Rattle.assembly_text.specs.Explaining.{AreReasons, IsAsked};
-ghost use Rattle.assembly_notation.specs.Given.{GivenFits};
-ghost use Rattle.assembly_text.specs.Solving.{ComesBefore, IsReadGoal, IsSolvedBefore};
+ghost use Rattle.assembly_text.specs.Solving.{ComesBefore, IsReadGoal, IsSolvedBefore, GivenIsListed};
 ghost use Rattle.candidate_rounds.specs.Table.Efforts.{IsEffort};
 
 use crate::openness::{Openness, look_at_open};
@@ -196,7 +195,7 @@ fn look_back(
     effort: Effort,
     goals: &[AskedGoal],
 ) -> (Cx, Result<Vec<u16>, Stop>)
-    requires given { GivenFits cx.trees given.now }
+    requires given { GivenIsListed cx.trees given.now }
     requires read { IsReadGoal cx predicate }
     ensures { Grows cx result.0 }
 {
@@ -262,7 +261,7 @@ fn explain_run(
     effort: Effort,
 ) -> (Cx, Result<Explained, Stop>)
     requires some { IsEffort effort }
-    requires given { GivenFits cx.trees given.now }
+    requires given { GivenIsListed cx.trees given.now }
     requires read { IsReadGoal cx predicate }
     ensures grows { Grows cx result.0 }
     ensures comes { IfOk result.1 (λ e. IsSolvedBefore cx given.now predicate effort result.0 e.verdict) }
@@ -287,7 +286,7 @@ fn with_rounds(
     effort: Effort,
     explained: Explained,
 ) -> (Cx, Result<Explained, Stop>)
-    requires given { GivenFits cx.trees given.now }
+    requires given { GivenIsListed cx.trees given.now }
     requires read { IsReadGoal cx predicate }
     requires sorts { AreReasons cx.trees explained.reasons }
     ensures grows { Grows cx result.0 }
@@ -321,7 +320,7 @@ fn explain_by_rounds(
     effort: Effort,
 ) -> (Cx, Result<Explained, Stop>)
     requires some { IsEffort effort }
-    requires given { GivenFits cx.trees given.now }
+    requires given { GivenIsListed cx.trees given.now }
     requires read { IsReadGoal cx predicate }
     ensures grows { Grows cx result.0 }
     ensures comes { IfOk result.1 (λ e. IsSolvedBefore cx given.now predicate effort result.0 e.verdict) }
@@ -380,7 +379,7 @@ pub fn explain(
     tells_open: bool,
 ) -> (Cx, Result<Explained, Stop>)
     requires some { IsEffort effort }
-    requires given { GivenFits cx.trees given.now }
+    requires given { GivenIsListed cx.trees given.now }
     requires read { IsReadGoal cx predicate }
     ensures grows { Grows cx result.0 }
     ensures comes { IfOk result.1 (λ e. IsSolvedBefore cx given.now predicate effort result.0 e.verdict) }

@@ -4,9 +4,9 @@ ghost use Rattle.std.specs.Prelude.{◌≡◌, ◌<◌, [], All, IfOk, IfSome, L
 ghost use Rattle.ir_trees.specs.Declarations.Context.{Grows};
 ghost use Rattle.ir_trees.specs.Syntax.Trees.{Tree};
 ghost use Rattle.ir_trees.specs.Syntax.Words.{IsArgs, IsClause};
-ghost use Rattle.assembly_notation.specs.Given.{GivenFits};
 ghost use Rattle.assembly_text.specs.Asking.{declared_part};
 ghost use Rattle.assembly_text.specs.Reasons.{AddsMore, AddsOverlapAndMore, AddsSomeOverlapAndMore, AreReasoned};
+ghost use Rattle.assembly_text.specs.Solving.{GivenIsListed};
 ghost use Rattle.candidate_rounds.specs.Table.Efforts.{IsEffort};
 
 use crate::asking::{Asking, read_effort};
@@ -89,7 +89,7 @@ fn ask_reasoned(
     effort: Effort,
 ) -> (Cx, Result<Reasoned, Stop>)
     requires some { IsEffort effort }
-    requires given { GivenFits cx.trees given.now }
+    requires given { GivenIsListed cx.trees given.now }
     ensures grows { Grows cx result.0 }
     ensures sorts { IfOk result.1 (AreReasoned result.0.trees) }
 {

@@ -1,6 +1,6 @@
 //! What a goal comes to under what is given.
 
-ghost use Rattle.std.specs.Prelude.{◌≡◌, ◌<◌, [], true, IfErr, IfOk, IfSome, MatchOption, OnOk};
+ghost use Rattle.std.specs.Prelude.{◌≡◌, ◌<◌, [], true, All, IfErr, IfOk, IfSome, MatchOption, OnOk};
 ghost use Rattle.ir_trees.specs.Declarations.Context.{Grows};
 ghost use Rattle.ir_trees.specs.Declarations.References.{ArgumentsFit};
 ghost use Rattle.ir_trees.specs.declared.ir.stop.Stop.{Stop};
@@ -18,7 +18,7 @@ ghost use Rattle.candidate_rounds.specs.Table.Normalizing.{IsProjection};
 ghost use Rattle.assembly_text.specs.Overlapping.{IsOverlapAnyway, IsOverlapSolved, IsOverlapStopped};
 ghost use Rattle.assembly_text.specs.Specializing.{IsNegationAnswered, IsTestStopped, IsTested, IsTesterFor};
 ghost use Rattle.assembly_text.specs.Together.{IsApartAnswered};
-ghost use Rattle.assembly_text.specs.Solving.{AreValues, Comes, ComesBefore, ComesUnder, IsReadGoal, IsReady, IsSolved, IsNewFor, IsOpenFor, IsSolvedBefore, roots_for, with_roots};
+ghost use Rattle.assembly_text.specs.Solving.{AreValues, Comes, ComesBefore, ComesUnder, IsReadGoal, IsReady, IsSolved, IsNewFor, IsOpenFor, IsSolvedBefore, roots_for, with_roots, GivenIsListed, IsListedForm};
 ghost use Rattle.candidate_rounds.specs.Table.Efforts.{IsEffort};
 
 use assembly_notation::given::Given;
@@ -60,9 +60,9 @@ pub struct Solved {
 }
 
 /// The aliases of what is given that may be listed, each with its type. A text gives no others.
-fn normal_forms(alloc: Global, cx: &Cx, given: &Given) -> Result<Vec<(Ty, Ty)>, Stop>
+fn which_may_be_listed(alloc: Global, cx: &Cx, given: &Given) -> Result<Vec<(Ty, Ty)>, Stop>
     requires { GivenFits cx.now.trees given.now }
-    ensures given { IfOk result (λ v. IsGiven cx.now.trees v.items []) }
+    ensures forms { IfOk result (λ v. All (IsListedForm cx.now.trees) v.items) }
     ensures listed { IfOk result (λ v. listing_of cx.now.trees v.items ≡ well_listed (listing_of cx.now.trees given.now.normal_forms.items)) }
     ensures cause { IfErr result (λ s. s ≡ Stop.Memory) }
 {
@@ -76,9 +76,44 @@ fn normal_forms(alloc: Global, cx: &Cx, given: &Given) -> Result<Vec<(Ty, Ty)>, 
     Ok(list)
 }
 
+/// What is given, with those of its aliases alone that may be listed. They are tested once for all evaluators. The only stop is `Stop::Memory`.
+pub(crate) fn with_listed_alone(alloc: Global, cx: &Cx, given: Given) -> Result<Given, Stop>
+    requires { GivenFits cx.now.trees given }
+    ensures ready { IfOk result (GivenIsListed cx.now.trees) }
+    ensures listed { IfOk result (λ g. listing_of cx.now.trees g.normal_forms.items ≡ well_listed (listing_of cx.now.trees given.normal_forms.items)) }
+    ensures cause { IfErr result (λ s. s ≡ Stop.Memory) }
+{
+    let normal_forms = which_may_be_listed(alloc, cx, &given)?;
+    let Given {
+        clauses,
+        mode,
+        specialization,
+        negative,
+        ..
+    } = given;
+    Ok(Given {
+        clauses,
+        normal_forms,
+        mode,
+        specialization,
+        negative,
+    })
+}
+
+/// The aliases of what is given, each with its type. Each may be listed.
+fn normal_forms(alloc: Global, cx: &Cx, given: &Given) -> Result<Vec<(Ty, Ty)>, Stop>
+    requires { GivenIsListed cx.now.trees given.now }
+    ensures given { IfOk result (λ v. IsGiven cx.now.trees v.items []) }
+    ensures listed { IfOk result (λ v. listing_of cx.now.trees v.items ≡ well_listed (listing_of cx.now.trees given.now.normal_forms.items)) }
+    ensures cause { IfErr result (λ s. s ≡ Stop.Memory) }
+{
+    let _ = cx;
+    Ok(Vec::from_slice(alloc, given.normal_forms.as_slice())?)
+}
+
 /// A new evaluator over the context, in the given mode; or the context and a stop, where memory was refused.
 pub(crate) fn evaluator(alloc: Global, cx: Cx, given: &Given) -> Result<Rounds, (Cx, Stop)>
-    requires { GivenFits cx.trees given.now }
+    requires { GivenIsListed cx.trees given.now }
     ensures made { IfOk result (λ r. IsNewFor cx given.now r) }
     ensures kept { IfErr result (λ e. e.0 ≡ cx) }
 {
@@ -94,7 +129,7 @@ pub(crate) fn evaluator(alloc: Global, cx: Cx, given: &Given) -> Result<Rounds, 
 
 /// A new evaluator over the context, in whose coherence an alias that isn't listed may be any type.
 pub(crate) fn open_evaluator(alloc: Global, cx: Cx, given: &Given) -> Result<Rounds, (Cx, Stop)>
-    requires { GivenFits cx.trees given.now }
+    requires { GivenIsListed cx.trees given.now }
     ensures made { IfOk result (λ r. IsOpenFor cx given.now r) }
     ensures kept { IfErr result (λ e. e.0 ≡ cx) }
     ensures cause { IfErr result (λ e. e.1 ≡ Stop.Memory) }
@@ -283,7 +318,7 @@ pub fn solve(
     effort: Effort,
 ) -> (Cx, Result<Option<Verdict>, Stop>)
     requires some { IsEffort effort }
-    requires given { GivenFits cx.trees given.now }
+    requires given { GivenIsListed cx.trees given.now }
     requires read { IsReadGoal cx predicate }
     ensures grows { Grows cx result.0 }
     ensures comes { IfOk result.1 (λ v. IsSolved cx given.now predicate effort result.0 v) }
@@ -331,7 +366,7 @@ pub fn solve_for_values(
     effort: Effort,
 ) -> (Cx, Result<Solved, Stop>)
     requires some { IsEffort effort }
-    requires given { GivenFits cx.trees given.now }
+    requires given { GivenIsListed cx.trees given.now }
     requires read { IsReadGoal cx predicate }
     ensures grows { Grows cx result.0 }
     ensures comes { IfOk result.1 (λ s. IsSolvedBefore cx given.now predicate effort result.0 s.verdict) }
@@ -466,7 +501,7 @@ pub fn normalize(
     waits: bool,
 ) -> (Cx, Result<Normal, Stop>)
     requires some { IsEffort effort }
-    requires given { GivenFits cx.trees given.now }
+    requires given { GivenIsListed cx.trees given.now }
     requires projection { IsReadProjection cx alias }
     ensures grows { Grows cx result.0 }
     ensures sort { IfOk result.1 (IsNormal result.0.trees) }
@@ -493,7 +528,7 @@ pub fn overlap(
     effort: Effort,
 ) -> (Cx, Result<Overlap, Stop>)
     requires some { IsEffort effort }
-    requires given { GivenFits cx.trees given.now }
+    requires given { GivenIsListed cx.trees given.now }
     ensures grows { Grows cx result.0 }
     ensures is { IfOk result.1 (IsOverlapSolved cx given.now first second effort result.0) }
     ensures stopped { IfErr result.1 (IsOverlapStopped cx given.now result.0) }
@@ -517,7 +552,7 @@ pub fn overlap_anyway(
     effort: Effort,
 ) -> (Cx, Result<Overlap, Stop>)
     requires some { IsEffort effort }
-    requires given { GivenFits cx.trees given.now }
+    requires given { GivenIsListed cx.trees given.now }
     ensures grows { Grows cx result.0 }
     ensures is { IfOk result.1 (IsOverlapAnyway cx given.now first second effort result.0) }
     ensures stopped { IfErr result.1 (IsOverlapStopped cx given.now result.0) }
@@ -542,7 +577,7 @@ pub fn apart_by_clauses(
     effort: Effort,
 ) -> (Cx, Result<bool, Stop>)
     requires some { IsEffort effort }
-    requires given { GivenFits cx.trees given.now }
+    requires given { GivenIsListed cx.trees given.now }
     ensures grows { Grows cx result.0 }
     ensures is { IfOk result.1 (IsApartAnswered cx given.now first second result.0) }
     ensures stopped { IfErr result.1 (IsOverlapStopped cx given.now result.0) }
@@ -558,7 +593,7 @@ pub fn apart_by_clauses(
 
 /// A new evaluator that asks goals outside coherence, as whether an impl specialises another one is asked in each mode.
 fn tester(alloc: Global, cx: Cx, given: &Given) -> Result<Rounds, (Cx, Stop)>
-    requires { GivenFits cx.trees given.now }
+    requires { GivenIsListed cx.trees given.now }
     ensures made { IfOk result (λ r. IsTesterFor cx given.now r) }
     ensures kept { IfErr result (λ e. e.0 ≡ cx) }
     ensures cause { IfErr result (λ e. e.1 ≡ Stop.Memory) }
@@ -584,7 +619,7 @@ pub fn test_specialization(
     effort: Effort,
 ) -> (Cx, Result<Specialization, Stop>)
     requires some { IsEffort effort }
-    requires given { GivenFits cx.trees given.now }
+    requires given { GivenIsListed cx.trees given.now }
     ensures grows { Grows cx result.0 }
     ensures is { IfOk result.1 (IsTested cx given.now special general result.0) }
     ensures stopped { IfErr result.1 (IsTestStopped cx given.now result.0) }
@@ -609,7 +644,7 @@ pub fn negated_clause(
     effort: Effort,
 ) -> (Cx, Result<Option<WhereClause>, Stop>)
     requires some { IsEffort effort }
-    requires given { GivenFits cx.trees given.now }
+    requires given { GivenIsListed cx.trees given.now }
     ensures grows { Grows cx result.0 }
     ensures is { IfOk result.1 (IsNegationAnswered cx given.now first second result.0) }
     ensures stopped { IfErr result.1 (IsTestStopped cx given.now result.0) }

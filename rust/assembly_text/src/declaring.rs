@@ -5,6 +5,7 @@
 
 use kit::{eprintln, format, prelude::*, print, println, vec};
 use crate::asking::Asking;
+use crate::solving::with_listed_alone;
 use assembly_notation::faults::Fault;
 use assembly_notation::first::make_first;
 use assembly_notation::given::Given;
@@ -203,6 +204,7 @@ impl<'a> Declaring<'a> {
         } = scope;
         let Draft { builder, given, .. } = maker;
         let maker = Cx::new(builder.finish()?);
+        let given = with_listed_alone(alloc, &maker, given)?;
         let scope = Scope {
             alloc,
             names,

@@ -43,7 +43,7 @@ pub struct Solved {
 }
 
 /// The aliases of what is given that may be listed, each with its type. A text gives no others.
-fn normal_forms(alloc: Global, cx: &Cx, given: &Given) -> Result<Vec<(Ty, Ty)>, Stop>
+fn which_may_be_listed(alloc: Global, cx: &Cx, given: &Given) -> Result<Vec<(Ty, Ty)>, Stop>
 {
     let mut list = Vec::new(alloc);
     for i in 0..given.normal_forms.len() {
@@ -53,6 +53,33 @@ fn normal_forms(alloc: Global, cx: &Cx, given: &Given) -> Result<Vec<(Ty, Ty)>, 
         }
     }
     Ok(list)
+}
+
+/// What is given, with those of its aliases alone that may be listed. They are tested once for all evaluators. The only stop is `Stop::Memory`.
+pub(crate) fn with_listed_alone(alloc: Global, cx: &Cx, given: Given) -> Result<Given, Stop>
+{
+    let normal_forms = which_may_be_listed(alloc, cx, &given)?;
+    let Given {
+        clauses,
+        mode,
+        specialization,
+        negative,
+        ..
+    } = given;
+    Ok(Given {
+        clauses,
+        normal_forms,
+        mode,
+        specialization,
+        negative,
+    })
+}
+
+/// The aliases of what is given, each with its type. Each may be listed.
+fn normal_forms(alloc: Global, cx: &Cx, given: &Given) -> Result<Vec<(Ty, Ty)>, Stop>
+{
+    let _ = cx;
+    Ok(Vec::from_slice(alloc, given.normal_forms.as_slice())?)
 }
 
 /// A new evaluator over the context, in the given mode; or the context and a stop, where memory was refused.

@@ -1,5 +1,5 @@
 use Rattle.ir_trees.proofs.Growth.Kept.{grows-trans}
-use Rattle.assembly_notation.proofs.Giving.{given_grows}
+use Rattle.assembly_text.proofs.Giving.{given_grows}
 use Rattle.assembly_text.proofs.MayBeGiven.{read-kept}
 use Rattle.assembly_text.proofs.considering.consider.Goals as goal
 

@@ -2,7 +2,7 @@ use Rattle.std.proofs.Common.{rules, subst, sym}
 use Rattle.ir_trees.proofs.Growth.Kept.{grows-trans}
 use Rattle.assembly_text.specs.Solving.{IsSolved, IsSolvedBefore}
 use Rattle.assembly_text.proofs.Answered.{on-answer}
-use Rattle.assembly_notation.proofs.Giving.{given_grows}
+use Rattle.assembly_text.proofs.Giving.{given_grows}
 use Rattle.assembly_text.proofs.MayBeGiven.{read-kept}
 use Rattle.assembly_text.proofs.explaining.explain_by_rounds.Goals as goal
 

@@ -1,44 +1,17 @@
-use Rattle.std.proofs.Common.{◌≡◌, ℕ, suc, ◌+◌, ◌++◌, ◌∷◌, [], arith, take, sym, ap, subst, ◌∙◌}
-use Rattle.std.proofs.Math.Seq.{take-suc}
-use Rattle.std.proofs.lemmas.List.Elements.{All-get_or}
+use Rattle.std.proofs.Common.{List, [], ap, subst, sym, ◌∙◌}
 use Rattle.ir_trees.specs.declared.ir.kinds.Ty.{Ty}
 use Rattle.candidate_rounds.specs.Evaluators.Known.{IsGiven, listing_of}
-use Rattle.rounds_judge.specs.Aliases.WellListed.{well_listed}
-use Rattle.assembly_notation.specs.Given.{IsNormalForm}
-use Rattle.assembly_text.proofs.MayBeGiven.{given-more, given-none}
-use Rattle.assembly_text.proofs.ListedPairs.{listed-on, passed-over}
+use Rattle.assembly_text.proofs.Giving.{all-of, given-of}
 use Rattle.assembly_text.proofs.solving.normal_forms.Goals as goal
-use Rattle.assembly_text.proofs.solving.normal_forms.Goals.{then-may_be_listed+in_ok-push, else-may_be_listed}
 
-one-more : (n : ℕ) → n + 1 ≡ suc n
-one-more n = omega arith
-
-form-is : (c : goal.Joined-may_be_listed) → IsNormalForm c.args.cx.now.trees c.index.result.now
-form-is c =
-    let few = c.len-i-end.ensures in
-    subst (IsNormalForm c.args.cx.now.trees) (sym c.index.ensures)
-    (All-get_or (IsNormalForm c.args.cx.now.trees) c.args.given.now.normal_forms.items c.loop-i.i c.index.result.now (omega (arith, few, c.loop-i-test.true)) c.requires.normal_forms)
-
-pub loop-i-preserved : goal.loop-i-preserved
-loop-i-preserved c =
+pub returns-clause-given : goal.returns-clause-given
+returns-clause-given c =
     let ts = c.args.cx.now.trees in
-    let all = c.args.given.now.normal_forms.items in
-    let p = c.index.result.now in
-    let few = c.len-i-end.ensures in
-    let next : take (c.loop-i.i + 1) all ≡ take c.loop-i.i all ++ p ∷ [] = ap (λ n. take n all) (one-more c.loop-i.i) ∙ take-suc all c.loop-i.i p (omega (arith, few, c.loop-i-test.true)) ∙ ap (λ (q : Ty × Ty). take c.loop-i.i all ++ q ∷ []) (sym c.index.ensures) in
-    let so_far = c.loop-i.invariant in
-    elim c.if-may_be_listed.branch [
-      | then-may_be_listed+in_ok-push w ↦
-          let may = sym c.may_be_listed.ensures ∙ w.if-may_be_listed.true in
-          subst (λ v. IsGiven ts v.items [] × (listing_of ts v.items ≡ well_listed (listing_of ts (take (c.loop-i.i + 1) all)))) (sym w.list-is) (
-            given-more ts c.loop-i.list.items w.push.new.self.items p.0 p.1 so_far.0 (form-is c).sort (form-is c).ty may w.in_ok-push.ensures.items,
-            ap (listing_of ts) w.in_ok-push.ensures.items ∙ (listed-on ts (take c.loop-i.i all) p c.loop-i.list.items so_far.1 may ∙ ap (λ xs. well_listed (listing_of ts xs)) (sym next)),
-          )
-      | else-may_be_listed w ↦
-          let may_not = sym c.may_be_listed.ensures ∙ w.if-may_be_listed.false in
-          subst (λ v. IsGiven ts v.items [] × (listing_of ts v.items ≡ well_listed (listing_of ts (take (c.loop-i.i + 1) all)))) (sym w.list-is)
-          (so_far.0, passed-over ts (take c.loop-i.i all) p c.loop-i.list.items so_far.1 may_not ∙ ap (λ xs. well_listed (listing_of ts xs)) (sym next))
-    ]
+    let items = c.in_ok-from_slice.ensures.items ∙ c.as_slice.ensures.value in
+    subst (λ (ps : List (Ty × Ty)). IsGiven ts ps []) (sym items) (given-of ts c.args.given.now.normal_forms.items c.requires.listed)
 
-pub loop-i-init : goal.loop-i-init
-loop-i-init c = (given-none _ _ c.new-list.ensures.items, ap (listing_of c.args.cx.now.trees) c.new-list.ensures.items)
+pub returns-clause-listed : goal.returns-clause-listed
+returns-clause-listed c =
+    let ts = c.args.cx.now.trees in
+    let items = c.in_ok-from_slice.ensures.items ∙ c.as_slice.ensures.value in
+    ap (listing_of ts) items ∙ all-of ts c.args.given.now.normal_forms.items c.requires.listed

@@ -3,7 +3,7 @@ use Rattle.ir_trees.specs.Declarations.Context.{Context, Grows}
 use Rattle.assembly_text.specs.Explaining.{AreReasons}
 use Rattle.assembly_text.specs.Solving.{IsReadGoal, IsSolvedBefore}
 use Rattle.assembly_text.proofs.Answered.{over-all}
-use Rattle.assembly_notation.proofs.Giving.{given_declared, declared_grows}
+use Rattle.assembly_text.proofs.Giving.{given_declared, declared_grows}
 use Rattle.assembly_text.proofs.asking.Asking.explained.Goals as goal
 
 pub explain-maker-requires-clause-given : goal.explain-maker-requires-clause-given

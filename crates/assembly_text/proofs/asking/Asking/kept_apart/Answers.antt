@@ -3,7 +3,7 @@ use Rattle.ir_trees.specs.Declarations.Context.{Grows}
 use Rattle.assembly_text.specs.Overlapping.{IsOverlapStopped}
 use Rattle.assembly_text.specs.Together.{IsApartAnswered}
 use Rattle.assembly_text.proofs.Answered.{over-all}
-use Rattle.assembly_notation.proofs.Giving.{given_declared, declared_grows}
+use Rattle.assembly_text.proofs.Giving.{given_declared, declared_grows}
 use Rattle.assembly_text.proofs.asking.Asking.kept_apart.Goals as goal
 
 pub apart_by_clauses-maker-requires-clause-given : goal.apart_by_clauses-maker-requires-clause-given

@@ -7,7 +7,7 @@ use Rattle.candidate_eval.proofs.Knowability.Lowering.{plain_knowledge}
 use Rattle.candidate_eval.specs.Knowability.Normalizer.{exactly, refused_growth}
 use Rattle.candidate_eval.proofs.Knowability.Resolved.{all-resolved}
 use Rattle.candidate_eval.proofs.Frontier.Calls.{told-unless-refused}
-use Rattle.assembly_notation.proofs.Giving.{declared_grows}
+use Rattle.assembly_text.proofs.Giving.{declared_grows}
 use Rattle.assembly_text.proofs.asking.Asking.known.Goals as goal
 
 pub returns-clause-no_unnamed_header : goal.returns-clause-no_unnamed_header

@@ -2,7 +2,7 @@ use Rattle.std.proofs.Common.{IfOk, subst, sym}
 use Rattle.ir_trees.specs.Declarations.Context.{Context, Grows}
 use Rattle.assembly_text.specs.Normalizing.{IsNormal, IsNormalSolved, IsReadProjection}
 use Rattle.assembly_text.proofs.Answered.{over-all}
-use Rattle.assembly_notation.proofs.Giving.{given_declared, declared_grows}
+use Rattle.assembly_text.proofs.Giving.{given_declared, declared_grows}
 use Rattle.assembly_text.proofs.asking.Asking.normalized.Goals as goal
 
 pub normalize-maker-requires-clause-given : goal.normalize-maker-requires-clause-given

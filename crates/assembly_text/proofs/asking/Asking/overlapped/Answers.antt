@@ -2,7 +2,7 @@ use Rattle.std.proofs.Common.{IfErr, IfOk}
 use Rattle.ir_trees.specs.Declarations.Context.{Grows}
 use Rattle.assembly_text.specs.Overlapping.{IsOverlapSolved, IsOverlapStopped}
 use Rattle.assembly_text.proofs.Answered.{over-all}
-use Rattle.assembly_notation.proofs.Giving.{given_declared, declared_grows}
+use Rattle.assembly_text.proofs.Giving.{given_declared, declared_grows}
 use Rattle.assembly_text.proofs.asking.Asking.overlapped.Goals as goal
 
 pub overlap-maker-requires-clause-given : goal.overlap-maker-requires-clause-given

@@ -1,4 +1,4 @@
-use Rattle.assembly_notation.proofs.Giving.{declared_grows}
+use Rattle.assembly_text.proofs.Giving.{declared_grows}
 use Rattle.assembly_text.proofs.asking.Asking.print_lines_of.Goals as goal
 
 pub invariant_of-self : goal.invariant_of-self

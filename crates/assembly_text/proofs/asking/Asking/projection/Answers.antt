@@ -1,4 +1,4 @@
-use Rattle.assembly_notation.proofs.Giving.{declared_grows}
+use Rattle.assembly_text.proofs.Giving.{declared_grows}
 use Rattle.assembly_text.proofs.asking.Asking.projection.Goals as goal
 
 pub invariant_of-self : goal.invariant_of-self

@@ -1,6 +1,6 @@
 use Rattle.std.proofs.Common.{IfOk, sym, subst}
 use Rattle.ir_trees.specs.Declarations.Context.{Context}
-use Rattle.assembly_notation.proofs.Giving.{given_declared, declared_grows}
+use Rattle.assembly_text.proofs.Giving.{given_declared, declared_grows}
 use Rattle.assembly_text.specs.Reasons.{AreReasoned}
 use Rattle.assembly_text.proofs.asking.Asking.reasoned.Goals as goal
 
