@@ -137,8 +137,30 @@ impl<'a> Asking<'a> {
     }
 
     /// What is found of two impls that may overlap there: nothing where their where clauses can't hold together, or, if that is asked for, where
-    /// one of them can't hold while the other impl does.
+    /// one of them can't hold while the other impl does. Where no goal is left of the two, none keeps them apart, and that isn't asked.
     fn unless_apart(
+        self,
+        first: ImplId,
+        second: ImplId,
+        instance: CommonInstance,
+        effort: Effort,
+    ) -> (Asking<'a>, Result<Found, Stop>)
+        requires printable { IsArgs self.scope.maker.trees instance.trait_ref.args }
+        requires some { IsEffort effort }
+        ensures stays { Stays self.entry result.0 }
+        ensures answer { result.0.answer ≡ self.entry.answer }
+        ensures found { IfOk result.1 (IsInstanceUnlessApart self.entry.scope.maker self.entry.given first second instance) }
+        ensures printable { IfOk result.1 (IsPrintableFound result.0.scope.maker.trees) }
+        ensures stopped { IfErr result.1 (IsPairStop self.entry.scope.maker self.entry.given) }
+    {
+        if self.leave_no_goal(first, second) {
+            return self.unless_negated(first, second, instance, effort);
+        }
+        self.unless_kept_apart(first, second, instance, effort)
+    }
+
+    /// The same, where goals may be left.
+    fn unless_kept_apart(
         self,
         first: ImplId,
         second: ImplId,

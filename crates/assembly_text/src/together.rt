@@ -1,6 +1,6 @@
 //! What is said of two impls that may overlap: whether what their where clauses say keeps them apart, all together or one of them alone.
 
-ghost use Rattle.std.specs.Prelude.{◌≡◌, ◌<◌, None, Ok, IfErr, IfOk, IfSome, OnOk, string_bytes};
+ghost use Rattle.std.specs.Prelude.{◌≡◌, ◌<◌, None, Ok, IfErr, IfOk, IfSome, OnOk, length, string_bytes};
 ghost use Rattle.ir_trees.specs.Declarations.Context.{Grows};
 ghost use Rattle.ir_trees.specs.Syntax.Words.{IsArgs};
 ghost use Rattle.overlaps.specs.declared.overlap.Overlap.{Overlap};
@@ -13,8 +13,12 @@ ghost use Rattle.candidate_rounds.specs.Table.Efforts.{IsEffort};
 use crate::asking::Asking;
 use crate::solving::{apart_by_clauses, negated_clause};
 use candidate_rounds::rounds::effort::Effort;
+use ir_context::decl::context::Cx;
 use ir_trees::decl::contents::ImplId;
+use ir_trees::ir::heads::Flag;
+use ir_trees::ir::kinds::{Args, Ty};
 use ir_trees::ir::stop::Stop;
+use ir_trees::ir::trees::Trees;
 use overlaps::instance::CommonInstance;
 use overlaps::overlap::{Overlap, WhereClause};
 
@@ -31,6 +35,47 @@ fn instance_of(overlap: Result<Overlap, Stop>) -> Option<CommonInstance>
         Ok(Overlap::DisjointClause(_)) => None,
         Err(_) => None,
     }
+}
+
+/// Whether the number is that of an alias that stands first in one of these pairs. Where these are in the order of their numbers, as those of a
+/// text mostly are, that is found in a few steps.
+fn is_listed(normal_forms: &[(Ty, Ty)], number: u32) -> bool {
+    let found = normal_forms.binary_search_by_key(&number, |pair| pair.0.0);
+    found.is_ok() || normal_forms.iter().any(|pair| pair.0.0 == number)
+}
+
+/// Whether each child of the number is an alias that stands first in one of these pairs, or has no alias.
+fn are_children_listed(cx: &Cx, normal_forms: &[(Ty, Ty)], number: u32) -> bool
+    requires { number < length cx.now.trees }
+{
+    for place in 0..usize::MAX {
+        let Some(child) = cx.child(number, place) else {
+            return true;
+        };
+        if cx.marks(child).has(Flag::Alias) && !is_listed(normal_forms, child) {
+            return false;
+        }
+    }
+    false
+}
+
+/// Whether each of the arguments is an alias that stands first in one of these pairs, or has no alias.
+fn are_listed(cx: &Cx, normal_forms: &[(Ty, Ty)], args: Args) -> bool
+    requires { IsArgs cx.now.trees args }
+{
+    are_children_listed(cx, normal_forms, args.0)
+}
+
+/// Whether the impl has no where clause, and no alias is left of its header where those of these pairs are the types that stand beside them, as far
+/// as its arguments themselves show.
+fn leaves_no_goal(cx: &Cx, normal_forms: &[(Ty, Ty)], of: ImplId) -> bool {
+    let Some(contents) = cx.impl_contents(of) else {
+        return false;
+    };
+    if !contents.wheres.is_empty() {
+        return false;
+    }
+    are_listed(cx, normal_forms, contents.trait_ref.args)
 }
 
 impl<'a> Asking<'a> {
@@ -99,6 +144,13 @@ impl<'a> Asking<'a> {
         let (mut asking, clause) = self.negated(first, second, effort);
         let made = asking.print_unless_negated(first, instance, clause);
         (asking, made)
+    }
+
+    /// Whether it is plain that making the headers of the two equal leaves nothing to be proved, and that neither has a where clause.
+    pub(crate) fn leave_no_goal(&self, first: ImplId, second: ImplId) -> bool {
+        let cx = &self.scope.maker;
+        let normal_forms = self.given.normal_forms.as_slice();
+        leaves_no_goal(cx, normal_forms, first) && leaves_no_goal(cx, normal_forms, second)
     }
 
     /// Whether the where clauses of the two can't hold together, in so many rounds for each.

@@ -110,8 +110,23 @@ impl<'a> Asking<'a> {
     }
 
     /// What is found of two impls that may overlap there: nothing where their where clauses can't hold together, or, if that is asked for, where
-    /// one of them can't hold while the other impl does.
+    /// one of them can't hold while the other impl does. Where no goal is left of the two, none keeps them apart, and that isn't asked.
     fn unless_apart(
+        self,
+        first: ImplId,
+        second: ImplId,
+        instance: CommonInstance,
+        effort: Effort,
+    ) -> (Asking<'a>, Result<Found, Stop>)
+    {
+        if self.leave_no_goal(first, second) {
+            return self.unless_negated(first, second, instance, effort);
+        }
+        self.unless_kept_apart(first, second, instance, effort)
+    }
+
+    /// The same, where goals may be left.
+    fn unless_kept_apart(
         self,
         first: ImplId,
         second: ImplId,
