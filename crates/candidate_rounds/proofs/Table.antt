@@ -33,3 +33,4 @@ pub mod StepStops
 pub mod Sources
 pub mod Needed
 pub mod Settled
+pub mod Coming

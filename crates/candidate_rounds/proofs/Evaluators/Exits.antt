@@ -58,4 +58,4 @@ marks-back old mid n e g m = subst (λ k. AreMarks k mid.marks) (sym e) (subst (
 
 -- What was given stays so, as it did before.
 pub given-trans : (r s t : Evaluator) → KeepsGiven r s → KeepsGiven s t → KeepsGiven r t
-given-trans r s t g h = (h.0 ∙ g.0, h.1 ∙ g.1, h.2 ∙ g.2)
+given-trans r s t g h = (h.0 ∙ g.0, h.1 ∙ g.1, h.2 ∙ g.2, h.3 ∙ g.3)

@@ -86,12 +86,12 @@ back-to-before s t f = f.1 (length s.trail) (omega arith) ∙ back-to-now s
 -- The evaluator goes on.
 
 pub goes-refl : (r : Evaluator) → GoesOn r r
-goes-refl r = (grows-refl r.context, (refl, refl, refl), refl, refl, further-refl r.inference, refl)
+goes-refl r = (grows-refl r.context, (refl, refl, refl, refl), refl, refl, further-refl r.inference, refl)
 
 pub goes-trans : (r s t : Evaluator) → GoesOn r s → GoesOn s t → GoesOn r t
 goes-trans r s t g h = (
   grows-trans r.context s.context t.context g.0 h.0,
-  (h.1.0 ∙ g.1.0, h.1.1 ∙ g.1.1, h.1.2 ∙ g.1.2),
+  (h.1.0 ∙ g.1.0, h.1.1 ∙ g.1.1, h.1.2 ∙ g.1.2, h.1.3 ∙ g.1.3),
   h.2 ∙ g.2,
   h.3 ∙ g.3,
   further-trans r.inference s.inference t.inference g.4 h.4,
@@ -100,15 +100,15 @@ goes-trans r s t g h = (
 
 -- where the context alone is another
 pub goes-context : (r : Evaluator) (x : Context) → Grows r.context x → NoFault r.context x → GoesOn r (record r { context = x })
-goes-context r x g n = (g, (refl, refl, refl), refl, refl, further-refl r.inference, n)
+goes-context r x g n = (g, (refl, refl, refl, refl), refl, refl, further-refl r.inference, n)
 
 -- where what is known alone is more
 pub goes-further : (r : Evaluator) (t : Inference) → IsFurther r.inference t → GoesOn r (record r { inference = t })
-goes-further r t f = (grows-refl r.context, (refl, refl, refl), refl, refl, f, refl)
+goes-further r t f = (grows-refl r.context, (refl, refl, refl, refl), refl, refl, f, refl)
 
 -- where both are
 pub goes-both : (r : Evaluator) (x : Context) (t : Inference) → Grows r.context x → NoFault r.context x → IsFurther r.inference t → GoesOn r (record r { context = x; inference = t })
-goes-both r x t g n f = (g, (refl, refl, refl), refl, refl, f, n)
+goes-both r x t g n f = (g, (refl, refl, refl, refl), refl, refl, f, n)
 
 -- What it was can be come back to.
 pub goes-back : (r s : Evaluator) → GoesOn r s → back_to (length r.inference.trail) s.inference ≡ r.inference
@@ -121,7 +121,7 @@ goes-undone r s t g x q k m n e =
     let same : t.inference ≡ r.inference = e ∙ goes-back r s g in (
       (
         grows-trans r.context s.context t.context g.0 x,
-        (k.0 ∙ g.1.0, k.1 ∙ g.1.1, k.2 ∙ g.1.2),
+        (k.0 ∙ g.1.0, k.1 ∙ g.1.1, k.2 ∙ g.1.2, k.3 ∙ g.1.3),
         m ∙ g.2,
         n ∙ g.3,
         subst (IsFurther r.inference) (sym same) (further-refl r.inference),

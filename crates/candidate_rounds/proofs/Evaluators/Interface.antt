@@ -47,7 +47,7 @@ fixed-kept old new g k given tabled =
     let hidden : alias_trees new.context.trees new.opaques ≡ alias_trees old.context.trees old.opaques = ap (alias_trees new.context.trees) k.1 ∙ opaques-kept old.context.trees new.context.trees old.opaques g.kept given.opaques_fit in
     let read = table-kept old new g k tabled in
     let noted = notes-kept old new k in
-    λ i. record { world = declared i; local_crate = local i; limits = bounded i; listing = listed i; opaques = hidden i; table = read i; notes = noted i }
+    λ i. record { world = declared i; local_crate = local i; limits = bounded i; mode = k.3 i; listing = listed i; opaques = hidden i; table = read i; notes = noted i }
 
 -- where no node is made
 pub fixed-same : (old new : Evaluator) → KeepsGiven old new → new.context.declarations ≡ old.context.declarations → new.context.local ≡ old.context.local → new.context.limits ≡ old.context.limits → new.context.trees ≡ old.context.trees → fixed new ≡ fixed old
@@ -56,7 +56,7 @@ fixed-same old new k d n b t =
     let hidden : alias_trees new.context.trees new.opaques ≡ alias_trees old.context.trees old.opaques = ap (alias_trees new.context.trees) k.1 ∙ ap (λ ts. alias_trees ts old.opaques) t in
     let read : table_of new ≡ table_of old = ap (table_seen new.context.trees) k.2 ∙ ap (λ ts. table_seen ts old.goals.table) t in
     let noted = notes-kept old new k in
-    λ i. record { world = world_of (d i); local_crate = (n i).0; limits = b i; listing = listed i; opaques = hidden i; table = read i; notes = noted i }
+    λ i. record { world = world_of (d i); local_crate = (n i).0; limits = b i; mode = k.3 i; listing = listed i; opaques = hidden i; table = read i; notes = noted i }
 
 pub keeps-all : (old new : Evaluator) → Grows old.context new.context → KeepsGiven old new → IsGiven old.context.trees old.normal.pairs old.opaques → IsTabled old.context.trees old.goals → probes new ≡ probes old
     → NoFault old.context new.context → Keeps fixed probes (λ r. r.context) old new
@@ -82,7 +82,7 @@ pub made-rest : (r : Evaluator) (x : Context) → Grows r.context x → x.delaye
     → rest (record r { context = x }) ≡ rest r
 made-rest r x g d h =
     let goes = goes-context r x g d in
-    rest-kept r (record r { context = x }) (fixed-kept r (record r { context = x }) g (refl, refl, refl) (parts h).given (parts h).tabled) (goes-same r (record r { context = x }) goes refl (parts h).consistent.known)
+    rest-kept r (record r { context = x }) (fixed-kept r (record r { context = x }) g (refl, refl, refl, refl) (parts h).given (parts h).tabled) (goes-same r (record r { context = x }) goes refl (parts h).consistent.known)
     (goes-probes r (record r { context = x }) goes (parts h).consistent.known (parts h).consistent.marks) d
 
 -- A call that makes nodes, and nothing else, of an evaluator that is as its fields say.

@@ -24,7 +24,7 @@ use Rattle.candidate_rounds.proofs.Snapshots.ResolvedValues.{resolved-with}
 pub taken-back : (old mid new : Evaluator) (n : ℕ) → n ≡ length old.inference.trail → GoesOn old mid → new ≡ record mid { inference = back_to n mid.inference } → GoesOn old new × (new.inference ≡ old.inference)
 taken-back old mid new n e g u =
     subst (λ (x : Evaluator). GoesOn old x × (x.inference ≡ old.inference)) (sym u)
-    (goes-undone old mid (record mid { inference = back_to n mid.inference }) g (grows-refl mid.context) refl (refl, refl, refl) refl refl (ap (λ k. back_to k mid.inference) e))
+    (goes-undone old mid (record mid { inference = back_to n mid.inference }) g (grows-refl mid.context) refl (refl, refl, refl, refl) refl refl (ap (λ k. back_to k mid.inference) e))
 
 pub resolved-again : (old mid : Evaluator) (n : ℕ) → n ≡ length old.inference.trail → GoesOn old mid → IsKnown old.context.trees old.inference → HasResolvedValues old.context.trees old.inference
     → HasResolvedValues mid.context.trees (back_to n mid.inference)

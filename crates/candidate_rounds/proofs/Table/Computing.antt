@@ -85,7 +85,7 @@ back-stays r n s h k =
     let known = (parts h).consistent.known in
     record {
       grows = k.grows;
-      fixed_same = ap (λ f. with_table f []) k.fixed_same;
+      fixed_same = ap (λ (f : Fixed). record (with_table f []) { mode = r.mode }) k.fixed_same;
       state_same = state-stays r.context.trees n.context.trees r.mode r.inference k.grows.kept known;
       probes_same = probes-grow r.context.trees n.context.trees r.mode r.inference r.marks k.grows.kept known;
       faults = by-goal k.faults;

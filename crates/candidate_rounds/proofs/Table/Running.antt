@@ -3,7 +3,7 @@ use Rattle.std.proofs.Common.{◌≡◌, ◌⊎◌, inl, inr, ◌≤◌, ◌<◌
 use Rattle.std.specs.Option.{option_map}
 use Rattle.std.proofs.lemmas.List.{length-append, map-append}
 use Rattle.ir_trees.specs.declared.ir.stop.Stop.{Stop}
-use Rattle.ir_trees.specs.Declarations.Context.{Context}
+use Rattle.ir_trees.specs.Declarations.Context.{Context, Grows}
 use Rattle.ir_trees.specs.Syntax.Nodes.{Extends}
 use Rattle.ir_trees.specs.Syntax.Trees.{Tree}
 use Rattle.ir_trees.proofs.Growth.Kept.{grows-refl, grows-trans}
@@ -59,20 +59,34 @@ with-same h T = ap (λ f. with_table f T) h.fixed_same
 mode-same : {r s : Evaluator} → StaysBesideTable r s → s.mode ≡ r.mode
 mode-same h = ap (λ (S : State). S.mode) h.state_same
 
--- What a goal comes to for one evaluator it comes to for one before it, from which all stayed but the table.
+-- What a goal comes to for one evaluator it comes to for one before it, for which the same is declared and given; and so what is made of goals.
+
+module _ {r s : Evaluator} (more : Grows r.context s.context) (same : with_table (fixed s) [] ≡ with_table (fixed r) []) where
+  computed-later : (T : GoalTable Via) (k : Key) (a : Option _) → computing s T k a → computing r T k a
+  computed-later T k a h =
+      let f : with_table (fixed s) T ≡ with_table (fixed r) T = ap (λ x. with_table x T) same in
+      let m : s.mode ≡ r.mode = ap (λ (x : Fixed). x.mode) same in
+      record {
+        context = h.context;
+        grows = grows-trans r.context s.context h.context more h.grows;
+        well_formed = h.well_formed;
+        left = h.left;
+        comes = subst (λ (q : Fixed × TypingMode). IsTraitAnswer (judge_of q.0) h.context (start_of q.1 k) k.goal h.left (said_by a)) (λ i. (f i, m i)) h.comes;
+        backed = subst (λ (q : Fixed × TypingMode). IsBacked (judge_of q.0) h.context (start_of q.1 k) k.goal (said_by a)) (λ i. (f i, m i)) h.backed;
+      }
+
+  writes-later : {P : Stays Via} (T : GoalTable Via) {es fs : GoalTable Via} → Writes P (computing s) T es fs → Writes P (computing r) T es fs
+  writes-later T R.nothing = R.nothing
+  writes-later T (R.stays e f w) = R.stays e f (writes-later T w)
+  writes-later T (R.computed e a f c w) = R.computed e a f (computed-later T e.key a c) (writes-later T w)
+
+  pub round-later : {P : Stays Via} {T U : GoalTable Via} → IsWriting P (computing s) T U → IsWriting P (computing r) T U
+  round-later {T = T} h = record { written = h.written; writes = writes-later T h.writes; asked = h.asked; are_new = h.are_new; is = h.is }
+
+-- The same where all stayed but the table.
 
 pub computed-before : {r s : Evaluator} → StaysBesideTable r s → (T : GoalTable Via) (k : Key) (a : Option _) → computing s T k a → computing r T k a
-computed-before {r} {s} x T k a h =
-    let f = with-same x T in
-    let m = mode-same x in
-    record {
-      context = h.context;
-      grows = grows-trans r.context s.context h.context x.grows h.grows;
-      well_formed = h.well_formed;
-      left = h.left;
-      comes = subst (λ (q : Fixed × TypingMode). IsTraitAnswer (judge_of q.0) h.context (start_of q.1 k) k.goal h.left (said_by a)) (λ i. (f i, m i)) h.comes;
-      backed = subst (λ (q : Fixed × TypingMode). IsBacked (judge_of q.0) h.context (start_of q.1 k) k.goal (said_by a)) (λ i. (f i, m i)) h.backed;
-    }
+computed-before x = computed-later x.grows x.fixed_same
 
 computing-stop-before : {r s : Evaluator} → StaysBesideTable r s → (ts : List Tree) (T : GoalTable Via) (k : Key) (e : Stop) → IsComputingStop ts s T k e → IsComputingStop ts r T k e
 computing-stop-before {r} {s} x ts T k e h =
@@ -97,13 +111,8 @@ pub entering-before : {r s : Evaluator} → StaysBesideTable r s → (ts : List 
 entering-before x ts g h T e q (Running.entering_key k) = Running.entering_key (subst (λ (p : State × TraitGoal). IsGoalKeyStop ts p.0 p.1 e) (λ i. (x.state_same i, q i)) k)
 entering-before x ts g h T _ q (Running.entering_full n l) = Running.entering_full (subst (λ (p : State × TraitGoal). is_entered T (key_at p.0 p.1) ≡ false) (λ i. (x.state_same i, q i)) n) l
 
-writes-before : {P : Stays Via} {r s : Evaluator} → StaysBesideTable r s → (T : GoalTable Via) {es fs : GoalTable Via} → Writes P (computing s) T es fs → Writes P (computing r) T es fs
-writes-before x T R.nothing = R.nothing
-writes-before x T (R.stays e f w) = R.stays e f (writes-before x T w)
-writes-before x T (R.computed e a f c w) = R.computed e a f (computed-before x T e.key a c) (writes-before x T w)
-
 pub round-before : {P : Stays Via} {r s : Evaluator} → StaysBesideTable r s → {T U : GoalTable Via} → IsWriting P (computing s) T U → IsWriting P (computing r) T U
-round-before x {T} h = record { written = h.written; writes = writes-before x T h.writes; asked = h.asked; are_new = h.are_new; is = h.is }
+round-before x h = round-later x.grows x.fixed_same h
 
 -- What a round has for places, so far.
 

@@ -10,6 +10,7 @@ use Rattle.ir_trees.specs.Unification.Substitutions.{is_variable}
 use Rattle.ir_trees.specs.Syntax.Trees.{Forest, Tree}
 use Rattle.ir_trees.specs.Syntax.Words.{env_forest}
 use Rattle.ir_trees.specs.Declarations.Worlds.{World}
+use Rattle.candidate_eval.specs.declared.eval.mode.TypingMode.{TypingMode}
 use Rattle.candidate_eval.specs.Interface.Evaluators.{NoFault, accepted, alias_trees, resolved_root, root_value, with_left}
 use Rattle.candidate_eval.specs.Interface.Knowing.{SeesStates}
 use Rattle.candidate_eval.specs.Judges.States.{Judge, Pending, State, Env, next}
@@ -21,19 +22,20 @@ use Rattle.rounds_judge.specs.Equations.Opening.{equation}
 use Rattle.candidate_rounds.specs.Table.Goals.{Via}
 use Rattle.candidate_rounds.specs.Evaluators.Known.{Evaluator, listing, notes_of, probes, state, table_of}
 
--- What stays fixed while goals are computed: what is declared, the crate, where walks end, what it was given, and the table that the last
--- round left, by trees, with what is noted beside its goals.
+-- What stays fixed while goals are computed: what is declared, the crate, where walks end, the mode, what it was given, and the table that the
+-- last round left, by trees, with what is noted beside its goals.
 pub record Fixed : Type 0 where
   pub world : World
   pub local_crate : ℕ
   pub limits : Limits
+  pub mode : TypingMode
   pub listing : Listing
   pub opaques : List Tree
   pub table : GoalTable Via
   pub notes : List Bool
 
 abbrev pub fixed : Evaluator → Fixed
-fixed r = record { world = world r.context; local_crate = r.context.local.0; limits = r.context.limits; listing = listing r; opaques = alias_trees r.context.trees r.opaques; table = table_of r; notes = notes_of r }
+fixed r = record { world = world r.context; local_crate = r.context.local.0; limits = r.context.limits; mode = r.mode; listing = listing r; opaques = alias_trees r.context.trees r.opaques; table = table_of r; notes = notes_of r }
 
 -- The laws speak of all that could be given; an evaluator's listed pairs all may be listed, and of the table it reads what may be read.
 abbrev pub judge_of : Fixed → Judge

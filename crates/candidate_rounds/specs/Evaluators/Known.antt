@@ -225,9 +225,9 @@ probes r = states_at r.context.trees r.mode r.inference r.marks
 abbrev pub with_root : State → VariableKind → State
 with_root S k = record S { variables = S.variables ++ record { kind = k; universe = 0; value = None; is_root = true } ∷ [] }
 
--- What the evaluator was given besides the context stays as it was, and the table with it.
+-- What the evaluator was given besides the context stays as it was, its mode and the table with it.
 abbrev pub KeepsGiven : Evaluator → Evaluator → Type 0
-KeepsGiven old new = (new.normal ≡ old.normal) × (new.opaques ≡ old.opaques) × (new.goals.table ≡ old.goals.table)
+KeepsGiven old new = (new.normal ≡ old.normal) × (new.opaques ≡ old.opaques) × (new.goals.table ≡ old.goals.table) × (new.mode ≡ old.mode)
 
 -- The listed pairs by their trees.
 abbrev pub listing : Evaluator → Listing

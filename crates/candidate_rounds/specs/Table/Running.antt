@@ -28,7 +28,7 @@ use Rattle.candidate_rounds.specs.Evaluators.Stopping.{IsGoalKeyStop, accounts}
 use Rattle.derivations.specs.DerivedTables.{AnswerIsDerived}
 use Rattle.rounds_judge.specs.Table.GoalTable.{Entry, GoalTable, entered_in, is_entered, may_be_read, most_goals, verdict_in}
 use Rattle.rounds_judge.specs.Table.Keys.{Key, key_at, same_key, start_of}
-use Rattle.rounds_judge.specs.Table.Rounds.{PureFolder, Changes, IsRound, Stays, StepsWithin, most_steps}
+use Rattle.rounds_judge.specs.Table.Rounds.{PureFolder, Changes, IsRound, IsStep, Stays, StepsWithin, most_steps}
 use Rattle.rounds_judge.specs.Table.Verdicts.{Answer, Verdict, is_final, verdict_of}
 
 -- An answer by its trees, and as what a goal comes to.
@@ -89,6 +89,12 @@ pub record StaysBesideTable (old new : Evaluator) : Type 0 where
   pub state_same : state new ≡ state old
   pub probes_same : probes new ≡ probes old
   pub faults : PutsOffByGoals old.context.delayed_bugs new.context.delayed_bugs
+
+-- A table comes from another one by steps: in each some goals are computed by what is declared and given here, as the judge has it that reads the table
+-- of the step before. A goal may be entered that isn't computed.
+pub data ComesFrom (r : Evaluator) (T : GoalTable Via) : GoalTable Via → Type 0 where
+  as_it_is : ComesFrom r T T
+  one_step : {U V : GoalTable Via} → ComesFrom r T U → IsStep (computing r) U V → ComesFrom r T V
 
 -- What a round or a step has for a place of the table: nothing where what is there may stay, and else the verdict of what the goal comes
 -- to, which isn't final yet.

@@ -35,5 +35,5 @@ returns-clause-kept c =
     let i = c.self.inside in
     let v : Evaluator = record { context = i.cx; mode = i.mode; normal = record { pairs = i.normal.items; is_open = i.opens }; opaques = i.opaques.items; goals = i.goals; inference = i.inference; marks = reverse i.probes.items } in
     subst (λ (e : Evaluator). Keeps fixed probes (λ r. r.context) e (record v { inference = c.add.new.self })) c.self.view_is
-    (keeps-same v (record v { inference = c.add.new.self }) refl (refl, refl, refl)
+    (keeps-same v (record v { inference = c.add.new.self }) refl (refl, refl, refl, refl)
     (probes-stay i.cx.trees i.mode i.inference c.add.new.self (reverse i.probes.items) (parts c.self.invariant).consistent.marks (goal-undone i.inference c.add.new.self c.args.source c.args.goal c.add.result c.add.ensures.added c.add.ensures.unchanged)))

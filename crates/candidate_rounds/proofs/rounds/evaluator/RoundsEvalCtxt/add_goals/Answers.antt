@@ -36,5 +36,5 @@ returns-clause-kept c =
     let i = c.self.inside in
     let v : Evaluator = record { context = i.cx; mode = i.mode; normal = record { pairs = i.normal.items; is_open = i.opens }; opaques = i.opaques.items; goals = i.goals; inference = i.inference; marks = reverse i.probes.items } in
     subst (λ (e : Evaluator). Keeps fixed probes (λ r. r.context) e (record v { inference = c.add_all.new.self })) c.self.view_is
-    (keeps-same v (record v { inference = c.add_all.new.self }) refl (refl, refl, refl)
+    (keeps-same v (record v { inference = c.add_all.new.self }) refl (refl, refl, refl, refl)
     (probes-stay i.cx.trees i.mode i.inference c.add_all.new.self (reverse i.probes.items) (parts c.self.invariant).consistent.marks (goals-undone i.inference c.add_all.new.self c.args.source c.args.goals.now c.add_all.result c.add_all.ensures.added c.add_all.ensures.unchanged)))
