@@ -29,20 +29,20 @@ use Rattle.candidate_rounds.specs.Calls.Standing.{stands_at}
 use Rattle.candidate_rounds.specs.Evaluators.Interface.{Fixed, fixed, judge_of}
 use Rattle.candidate_rounds.specs.Evaluators.Known.{Evaluator, state, table_of}
 use Rattle.candidate_rounds.specs.Table.Goals.{Via}
-use Rattle.candidate_rounds.specs.Table.Running.{StaysBesideTable, computing, with_table}
-use Rattle.candidate_rounds.proofs.Table.Running.{stays-trans}
+use Rattle.candidate_rounds.specs.Table.Running.{computing, with_table}
 use Rattle.rounds_judge.specs.Table.GoalTable.{GoalTable}
 use Rattle.rounds_judge.specs.Table.Keys.{key_at}
 use Rattle.candidate_rounds.specs.Table.Efforts.{Runs}
 use Rattle.overlaps.specs.PartTraits.{HaveVariable}
 use Rattle.overlaps.specs.Asked.{AllStay, BothStay, ClauseStays, FirstStay, ImplStays, StayBefore, DecidesNothing, GoalStays, IsNotRefused, SoManyStay, StaysHere, WasRun, WasTried, says_nothing, asks, decides_nothing, ran_there, stands_not, stands_nowhere, was_run, was_tried, none_asked, one_asked, before_of_first, before_of_second}
-use Rattle.overlaps.specs.Refused.{AreOpen, IsOpen, clause_at, goal_alone}
+use Rattle.overlaps.specs.Refused.{AreOpen, IsOpen, StaysBesideSteps, clause_at, goal_alone}
 use Rattle.overlaps.specs.Stopping.{IsLater}
 use Rattle.overlaps.specs.declared.opening.Opened.{Opened}
 use Rattle.overlaps.specs.declared.opening.Pair.{Pair}
 use Rattle.overlaps.specs.declared.overlap.WhereClause.{WhereClause}
 use Rattle.overlaps.proofs.Refusing.{goal-is-alone, got-fits, instance-kept}
-use Rattle.overlaps.proofs.Stopping.{later-table, later-then}
+use Rattle.overlaps.proofs.Staying.{stays-trans}
+use Rattle.overlaps.proofs.Stopping.{later-steps, later-then}
 use Rattle.candidate_rounds.specs.declared.rounds.effort.Effort.{Effort}
 
 -- two things that hold where it is answered
@@ -131,7 +131,7 @@ pub predicate-undecided : (old new : Evaluator) (env : ParamEnv) (p : TraitPredi
 predicate-undecided old new env p effort t e a empty m d =
     decides_nothing m (subst (DecidesNothing (state old)) (goal-is-alone old.context old.context env p (grows-refl old.context) e a empty) d) t
 
-pub predicate-run : (old begun ran new : Evaluator) (env : ParamEnv) (p : TraitPredicate) (effort : Effort) → StaysBesideTable old begun → table_of begun ≡ table_of old → StaysBesideTable begun ran
+pub predicate-run : (old begun ran new : Evaluator) (env : ParamEnv) (p : TraitPredicate) (effort : Effort) → StaysBesideSteps old begun → table_of begun ≡ table_of old → StaysBesideSteps begun ran
     → fixed new ≡ fixed ran → IsParamEnv old.context.trees env → IsArgs old.context.trees p.trait_ref.args → env_forest old.context.trees env ≡ none
     → Runs (computing begun) (key_at (state begun) (trait_goal begun.context.trees env p)) effort (table_of begun) (table_of ran)
     → IsNotRefused (judge_of (fixed ran)) ran.context (state ran) (trait_goal ran.context.trees env p)
@@ -146,7 +146,7 @@ predicate-run old begun ran new env p effort stays t more f e a empty run h =
     let z : with_table (fixed ran) (table_of ran) ≡ with_table (fixed old) (table_of new) = ap (λ x. with_table x (table_of ran)) all.fixed_same ∙ ap (with_table (fixed old)) u in
     was_run (record {
       before = begun;
-      later = later-table stays;
+      later = later-steps stays;
       stands = s;
       ran = subst (λ (q : State × TraitGoal × GoalTable Via × GoalTable Via). Runs (computing begun) (key_at q.0 q.1) effort q.2 q.3) (λ i. (s i, g i, t i, u i)) run;
       context = ran.context;
@@ -156,7 +156,7 @@ predicate-run old begun ran new env p effort stays t more f e a empty run h =
 
 -- It was run where it stands, whatever it comes to; or it doesn't stand.
 
-pub predicate-tried : (old begun new : Evaluator) (env : ParamEnv) (p : TraitPredicate) (effort : Effort) → StaysBesideTable old begun → table_of begun ≡ table_of old
+pub predicate-tried : (old begun new : Evaluator) (env : ParamEnv) (p : TraitPredicate) (effort : Effort) → StaysBesideSteps old begun → table_of begun ≡ table_of old
     → IsParamEnv old.context.trees env → IsArgs old.context.trees p.trait_ref.args → env_forest old.context.trees env ≡ none
     → Runs (computing begun) (key_at (state begun) (trait_goal begun.context.trees env p)) effort (table_of begun) (table_of new)
     → WasTried old (state old) effort (goal_alone old.context.trees p) (table_of old) (table_of new)
@@ -165,7 +165,7 @@ predicate-tried old begun new env p effort stays t e a empty run =
     let g = goal-is-alone old.context begun.context env p stays.grows e a empty in
     ran_there (record {
       before = begun;
-      later = later-table stays;
+      later = later-steps stays;
       stands = s;
       ran = subst (λ (q : State × TraitGoal × GoalTable Via). Runs (computing begun) (key_at q.0 q.1) effort q.2 (table_of new)) (λ i. (s i, g i, t i)) run;
     })
@@ -216,7 +216,7 @@ clause-probed old began ran new effort t l f s n h =
 -- Several clauses
 
 -- one more, asked by a later evaluator
-pub one-more : (old mid : Evaluator) (effort : Effort) (locals : Args) (xs : List Clause) (n : ℕ) (x : Clause) (T U : GoalTable Via) → StaysBesideTable old mid → IsArgs old.context.trees locals
+pub one-more : (old mid : Evaluator) (effort : Effort) (locals : Args) (xs : List Clause) (n : ℕ) (x : Clause) (T U : GoalTable Via) → StaysBesideSteps old mid → IsArgs old.context.trees locals
     → ClauseListFits old.context.trees xs → SoManyStay old (state old) effort (args_forest old.context.trees locals) xs T n (table_of mid) → slice_get xs n ≡ Some x
     → StaysHere mid (state mid) effort (args_forest mid.context.trees locals) x (table_of mid) U → SoManyStay old (state old) effort (args_forest old.context.trees locals) xs T (n + 1) U
 one-more old mid effort locals xs n x T U stays a fit before is h =
@@ -225,7 +225,7 @@ one-more old mid effort locals xs n x T U stays a fit before is h =
     let next : suc n ≡ n + 1 = omega (arith) in
     subst (λ k. SoManyStay old (state old) effort (args_forest old.context.trees locals) xs T k U) next
     (one_asked x before is
-    (clause-earlier old mid (state old) effort (clause_at old.context (state old) (args_forest old.context.trees locals) x) (table_of mid) U (later-table stays)
+    (clause-earlier old mid (state old) effort (clause_at old.context (state old) (args_forest old.context.trees locals) x) (table_of mid) U (later-steps stays)
     (subst (λ (q : State × Tree). ClauseStays mid q.0 effort (resolved_tree q.0 q.1) (table_of mid) U) (λ i. (s i, e i)) h)))
 
 -- the trees of the clauses are those of an earlier context
@@ -269,7 +269,7 @@ first-earlier old mid S effort o T n l known (U, h) = (
 )
 
 -- the second asked by a later evaluator
-pub both-stay : (old mid new : Evaluator) (effort : Effort) (p : Pair) → StaysBesideTable old mid → AreOpen old.context.trees p → ImplStays old (state old) effort p.first (table_of old) (table_of mid)
+pub both-stay : (old mid new : Evaluator) (effort : Effort) (p : Pair) → StaysBesideSteps old mid → AreOpen old.context.trees p → ImplStays old (state old) effort p.first (table_of old) (table_of mid)
     → ImplStays mid (state mid) effort p.second (table_of mid) (table_of new) → BothStay old (state old) effort p (table_of old) (table_of new)
 both-stay old mid new effort p stays open-pair first second =
     let T = table_of mid in
@@ -277,18 +277,18 @@ both-stay old mid new effort p stays open-pair first second =
       between = T;
       first = first;
       second =
-          impl-earlier old mid (state old) effort p.second T (table_of new) (later-table stays) open-pair.1
+          impl-earlier old mid (state old) effort p.second T (table_of new) (later-steps stays) open-pair.1
           (subst (λ (S : State). ImplStays mid S effort p.second T (table_of new)) stays.state_same second);
     }
 
 -- Clauses of the second one as far as that one, asked by a later evaluator behind all of the first
-pub before-of-second : (old mid : Evaluator) (effort : Effort) (p : Pair) (w : WhereClause) → StaysBesideTable old mid → AreOpen old.context.trees p → w.of ≡ p.second.of
+pub before-of-second : (old mid : Evaluator) (effort : Effort) (p : Pair) (w : WhereClause) → StaysBesideSteps old mid → AreOpen old.context.trees p → w.of ≡ p.second.of
     → ImplStays old (state old) effort p.first (table_of old) (table_of mid) → FirstStay mid (state mid) effort (args_forest mid.context.trees p.second.locals) p.second.wheres.items (table_of mid) w.number
     → StayBefore old (state old) effort p (table_of old) w
 before-of-second old mid effort p w stays open-pair of first second =
     before_of_second (table_of mid) of first
     (subst (λ (S : State). FirstStay old S effort (args_forest old.context.trees p.second.locals) p.second.wheres.items (table_of mid) w.number) stays.state_same
-    (first-earlier old mid (state mid) effort p.second (table_of mid) w.number (later-table stays) open-pair.1 second))
+    (first-earlier old mid (state mid) effort p.second (table_of mid) w.number (later-steps stays) open-pair.1 second))
 
 pub before-earlier : (old mid : Evaluator) (S : State) (effort : Effort) (p : Pair) (T : GoalTable Via) (w : WhereClause) → IsLater old mid → AreOpen old.context.trees p → StayBefore mid S effort p T w
     → StayBefore old S effort p T w

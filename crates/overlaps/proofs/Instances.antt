@@ -17,7 +17,6 @@ use Rattle.candidate_rounds.specs.Evaluators.Interface.{Fixed, fixed, judge_of}
 use Rattle.candidate_rounds.specs.Evaluators.Known.{Evaluator, IsGiven, listing, state, sure_of}
 use Rattle.candidate_rounds.specs.Evaluators.Leaking.{Leaks}
 use Rattle.candidate_rounds.specs.Table.Goals.{Via}
-use Rattle.candidate_rounds.specs.Table.Running.{StaysBesideTable}
 use Rattle.candidate_rounds.proofs.Table.Noted.{sure-fixed}
 use Rattle.rounds_judge.specs.Aliases.Listed.{Listing}
 use Rattle.rounds_judge.specs.Equations.Opening.{are_open}
@@ -28,7 +27,7 @@ use Rattle.overlaps.specs.Apart.{AreApart, AreOfOneTrait, AreOfOtherTraits, IfDe
 use Rattle.overlaps.specs.Found.{IsFoundAt, IsFoundOfPair, IsFoundWhereEqual, IsNotAllowed}
 use Rattle.overlaps.specs.Instance.{AreOneAt, BothImplsHold, CountAsEqual, HaveNoAlias, TellsLeak, IsCommonInstance, IsInstanceOfPair, IsInstanceWhereEqual, IsReferenceAt, equation_of, first_header, left_open, made_equal, second_header, unless_leaking}
 use Rattle.overlaps.specs.Opening.{AreOpened}
-use Rattle.overlaps.specs.Refused.{AreOpen, headers_equated}
+use Rattle.overlaps.specs.Refused.{AreOpen, StaysBesideSteps, headers_equated}
 use Rattle.overlaps.specs.declared.instance.CommonInstance.{CommonInstance}
 use Rattle.overlaps.specs.declared.opening.Pair.{Pair}
 use Rattle.overlaps.specs.declared.overlap.Overlap.{Overlap}
@@ -51,7 +50,7 @@ no-alias-before old new p g known h =
     subst (λ (q : Forest × Forest). HaveNoAlias q.0 q.1) (λ i. (f i, s i)) h
 
 -- Headers are equal, and clauses were answered then, of which this evaluator is left: an instance where they are.
-pub instance-where-equal : (old mid between new : Evaluator) (p : Pair) (x : CommonInstance) (b : _) → StaysBesideTable old mid → StaysBesideTable mid between → sure_of new ≡ sure_of mid → AreOpen old.context.trees p
+pub instance-where-equal : (old mid between new : Evaluator) (p : Pair) (x : CommonInstance) (b : _) → StaysBesideSteps old mid → StaysBesideSteps mid between → sure_of new ≡ sure_of mid → AreOpen old.context.trees p
     → (b ≡ true → BothHold mid.context.trees (sure_of mid) (state mid) p) → (b ≡ true → HaveNoAlias (args_forest mid.context.trees p.first.header) (args_forest mid.context.trees p.second.header)) → x.is_certain ≡ b
     → IsReferenceAt (state between) p.first.def_id (args_forest between.context.trees p.first.header) new.context.trees x.trait_ref → IsInstanceWhereEqual old new (state old) p x
 instance-where-equal old mid between new p x b one two sure known hold plain certain at =

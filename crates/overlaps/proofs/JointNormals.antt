@@ -38,17 +38,16 @@ use Rattle.candidate_rounds.specs.Evaluators.Known.{Each, Evaluator, listing, st
 use Rattle.candidate_rounds.specs.Table.Normalized.{IsNormalized}
 use Rattle.candidate_rounds.specs.Table.Normalizing.{IsProjection, goal_of_trait, trait_predicate}
 use Rattle.candidate_rounds.specs.Table.Projected.{with_normal}
-use Rattle.candidate_rounds.specs.Table.Running.{StaysBesideTable}
 use Rattle.candidate_rounds.proofs.Snapshots.Knowing.{each-append}
 use Rattle.rounds_judge.specs.Aliases.Listed.{Listing}
 use Rattle.rounds_judge.specs.Table.GoalTable.{may_be_asked}
 use Rattle.rounds_judge.specs.Table.Keys.{key_at}
 use Rattle.overlaps.proofs.Jointly.{obligations-there, one-there, typed-left}
 use Rattle.overlaps.proofs.Staying.{known-made, known-then}
-use Rattle.overlaps.proofs.Stopping.{later-known, later-table, later-then, step-stop}
+use Rattle.overlaps.proofs.Stopping.{later-known, later-steps, later-then, step-stop}
 use Rattle.overlaps.specs.Apart.{aside}
 use Rattle.overlaps.specs.PartTraits.{HaveVariable, RestsOnPart}
-use Rattle.overlaps.specs.Refused.{StaysBesideKnown}
+use Rattle.overlaps.specs.Refused.{StaysBesideKnown, StaysBesideSteps}
 use Rattle.overlaps.specs.Stopping.{IsLater, IsOverlapStop, step_normalizing}
 use Rattle.overlaps.specs.Together.{AreLeft, CameOf, HasYes, IsGivenAs, IsNormalAt, IsNormalUnder, IsObligation, IsOfProjection, IsProjectedAs, IsProjectionType, Obligation, StandsIn, gives_at, next_type, pending_at, pendings_at, with_type}
 use Rattle.overlaps.specs.declared.together.ProjectionType.{ProjectionType}
@@ -70,14 +69,14 @@ listed-later : {r s : Evaluator} → IsLater r s → listing s ≡ listing r
 listed-later l = ap (λ (f : Fixed). f.listing) l.fixed_same
 
 -- A sure response that came of normalising the projection says what it is.
-pub normal-at : (old mid : Evaluator) (env : ParamEnv) (a : AliasTy) (response : CanonicalResponse) (known : Option State) → StaysBesideTable old mid → IsParamEnv old.context.trees env
+pub normal-at : (old mid : Evaluator) (env : ParamEnv) (a : AliasTy) (response : CanonicalResponse) (known : Option State) → StaysBesideSteps old mid → IsParamEnv old.context.trees env
     → KindFits old.context.trees (K.Alias a) → CameOf old mid env a response → response.certainty ≡ Yes → gives_at mid env a response ≡ known
     → IsNormalUnder old (state old) (env_forest old.context.trees env) (kind_tree old.context.trees (K.Alias a)) known
 normal-at old mid env a response known stays env-fits fits came sure gives =
     let by = came.by in
     let g = came.later.grows in
     let args = alias-args old.context.trees a fits in
-    let l : listing mid ≡ listing by = listed-later (later-table stays) ∙ sym (listed-later came.later) in
+    let l : listing mid ≡ listing by = listed-later (later-steps stays) ∙ sym (listed-later came.later) in
     let q : goal_of_trait mid.context env a ≡ goal_of_trait by.context env a
     = projection-goal-kept old.context mid.context env a stays.grows env-fits args ∙ sym (projection-goal-kept old.context by.context env a g env-fits args) in
     let s = stays.state_same in
@@ -131,7 +130,7 @@ pub asked-later : (c d : Context) (S : State) (e : ParamEnv) (a : AliasTy) (p : 
 asked-later c d S e a p g by h = subst (λ (q : TraitPredicate). may_be_asked (key_at S (trait_goal d.trees e q)) ≡ true) (by ∙ sym (predicate-kept c d a g)) h
 
 -- The key of its trait's goal is the same later on, where the state stays.
-pub trait-key-later : (r s : Evaluator) (old : Context) (e : ParamEnv) (a : AliasTy) (p : TraitPredicate) → StaysBesideTable r s → Grows old s.context → p ≡ trait_predicate old a
+pub trait-key-later : (r s : Evaluator) (old : Context) (e : ParamEnv) (a : AliasTy) (p : TraitPredicate) → StaysBesideSteps r s → Grows old s.context → p ≡ trait_predicate old a
     → IsGoal trait_kind r.context e p → key_at (state r) (trait_goal r.context.trees e p) ≡ key_at (state s) (goal_of_trait s.context e a)
 trait-key-later r s old e a p stays grows by h =
     let goal : trait_goal r.context.trees e p ≡ goal_of_trait s.context e a
@@ -141,10 +140,10 @@ trait-key-later r s old e a p stays grows by h =
 
 -- What normalising it answers, and why it stops.
 
-pub came-of : (old by new : Evaluator) (e : ParamEnv) (a : AliasTy) (n : Effort) (r : Result (Option CanonicalResponse) Stop) → StaysBesideTable old by
+pub came-of : (old by new : Evaluator) (e : ParamEnv) (a : AliasTy) (n : Effort) (r : Result (Option CanonicalResponse) Stop) → StaysBesideSteps old by
     → HasYes (sure_of by) (key_at (state by) (goal_of_trait by.context e a)) → IsOfProjection by.context e a → IsNormalized new.context.trees by e a n (table_of new) r
     → IfOk r (λ o. IfSome o (CameOf old new e a))
-came-of old by new e a n (Ok (Some x)) stays holds is h = record { by = by; later = later-table stays; stands = stays.state_same; effort = n; trait_holds = holds; comes = h; of_instances = is }
+came-of old by new e a n (Ok (Some x)) stays holds is h = record { by = by; later = later-steps stays; stands = stays.state_same; effort = n; trait_holds = holds; comes = h; of_instances = is }
 came-of old by new e a n (Ok None) stays holds is h = tt
 came-of old by new e a n (Err s) stays holds is h = tt
 
@@ -170,7 +169,7 @@ still-projection c d e a (Ok None) g h = tt
 still-projection c d e a (Err s) g h = tt
 
 -- What a response says of it that is given.
-pub projected-as : (old mid new : Evaluator) (env : ParamEnv) (a : AliasTy) (response : CanonicalResponse) → StaysBesideTable old mid → IsParamEnv old.context.trees env
+pub projected-as : (old mid new : Evaluator) (env : ParamEnv) (a : AliasTy) (response : CanonicalResponse) → StaysBesideSteps old mid → IsParamEnv old.context.trees env
     → KindFits old.context.trees (K.Alias a) → CameOf old mid env a response → (t : ProjectionType) → IsGivenAs mid new env a response t
     → IsProjectedAs old new (env_forest old.context.trees env) (kind_tree old.context.trees (K.Alias a)) t
 projected-as old mid new env a response stays fits alias came P.Open h = h ∙ stays.state_same

@@ -38,7 +38,6 @@ use Rattle.candidate_rounds.specs.Evaluators.Interface.{Fixed, fixed, judge_of}
 use Rattle.candidate_rounds.specs.Evaluators.Known.{Evaluator, state, sure_of}
 use Rattle.candidate_rounds.specs.Evaluators.Leaking.{Leaks}
 use Rattle.candidate_rounds.specs.Table.Goals.{Via}
-use Rattle.candidate_rounds.specs.Table.Running.{StaysBesideTable}
 use Rattle.candidate_rounds.proofs.Stops.ResponseStops.{contains-mapped}
 use Rattle.candidate_rounds.proofs.Table.Noted.{sure-fixed}
 use Rattle.rounds_judge.specs.Table.GoalTable.{GoalTable, verdict_in}
@@ -47,7 +46,7 @@ use Rattle.overlaps.specs.Answered.{HoldsForAll, IsPlainYes}
 use Rattle.overlaps.specs.Apart.{OfDeclared, aside, entered, opened}
 use Rattle.overlaps.specs.Negated.{AreImplied, ArePlugged, BothArePlugged, ClauseIsNegated, ImpliesDenied, IsDenied, IsEnvironmentAt, IsNegatedAt, IsNegatedBy, IsNegatedFrom, IsNegatedOfPair, IsNegatedUnder, MayBePlugged, OneIsDenied, OneIsNegated, both_forests, clauses_at, names_of, no_more, one_more, turned, variables_of, with_names}
 use Rattle.overlaps.specs.Opening.{AreOpened, IsOpenedOf, IsOpenedWith}
-use Rattle.overlaps.specs.Refused.{AreOpen, IsOpen, MakesHeadersEqual, clause_at, headers_equated, locals_of}
+use Rattle.overlaps.specs.Refused.{AreOpen, IsOpen, MakesHeadersEqual, StaysBesideSteps, clause_at, headers_equated, locals_of}
 use Rattle.overlaps.specs.Specialized.{IsEnvironmentOf}
 use Rattle.overlaps.specs.declared.opening.Opened.{Opened}
 use Rattle.overlaps.specs.declared.opening.Pair.{Pair}
@@ -130,7 +129,7 @@ tree-in-place ts of xs d n fit is l = ap (λ (us : List Tree). slice_get us n) (
 
 -- The opposite of what a clause says
 
-pub clause-denied : (old mid : Evaluator) (env : ParamEnv) (x : Clause) (p q : TraitPredicate) (T : GoalTable Via) → StaysBesideTable old mid → IsParamEnv old.context.trees env
+pub clause-denied : (old mid : Evaluator) (env : ParamEnv) (x : Clause) (p q : TraitPredicate) (T : GoalTable Via) → StaysBesideSteps old mid → IsParamEnv old.context.trees env
     → IsArgs old.context.trees p.trait_ref.args → q.trait_ref ≡ p.trait_ref → p.polarity ≡ turned q.polarity
     → trait_said (clause_tree old.context.trees x).head ≡ Some (p.trait_ref.def_id, p.polarity) → arguments_of (clause_tree old.context.trees x) ≡ args_forest old.context.trees p.trait_ref.args
     → IsPlainYes (verdict_in T (key_at (state mid) (trait_goal mid.context.trees env q))) → HoldsForAll (verdict_in T (key_at (state mid) (trait_goal mid.context.trees env q)))
@@ -148,7 +147,7 @@ clause-denied old mid env x p q T stays e a reference turns said fits sure all =
     }
 
 -- One of several clauses, said of a later evaluator.
-pub one-denied : (old now : Evaluator) (env : ParamEnv) (xs : List Clause) (n : ℕ) (d : Clause) (T : GoalTable Via) → StaysBesideTable old now → IsParamEnv old.context.trees env
+pub one-denied : (old now : Evaluator) (env : ParamEnv) (xs : List Clause) (n : ℕ) (d : Clause) (T : GoalTable Via) → StaysBesideSteps old now → IsParamEnv old.context.trees env
     → ClauseListFits old.context.trees xs → n < length xs → IsDenied (env_forest now.context.trees env) T (state now) (clause_tree now.context.trees (slice_index_or xs n d))
     → OneIsDenied (env_forest old.context.trees env) T (state old) (map (clause_tree old.context.trees) xs)
 one-denied old now env xs n d T stays e fit l h =
@@ -197,7 +196,7 @@ at-earlier env c d T S locals xs n g fit h = record {
 }
 
 -- The clause of that number, said of a later evaluator.
-pub one-negated : (old now : Evaluator) (env : ParamEnv) (locals : Args) (xs : List Clause) (n : ℕ) (x : Clause) (T : GoalTable Via) → StaysBesideTable old now → IsParamEnv old.context.trees env
+pub one-negated : (old now : Evaluator) (env : ParamEnv) (locals : Args) (xs : List Clause) (n : ℕ) (x : Clause) (T : GoalTable Via) → StaysBesideSteps old now → IsParamEnv old.context.trees env
     → IsArgs old.context.trees locals → ClauseListFits old.context.trees xs → slice_get xs n ≡ Some x → ClauseIsNegated now T env locals x → OneIsNegated old T env locals xs n
 one-negated old now env locals xs n x T stays e a fit is h =
     let f = (env-kept old.context now.context env stays.grows e).1 in
@@ -394,7 +393,7 @@ header-kept : (c d : Context) (S : State) (i : Impl) → Grows c d → ImplIsGiv
 header-kept c d S i g given = ap (substituted (fresh_variables S (kinds_of_impl i)) 0) (args-kept c d i.trait_ref.args g given.header.list).1
 
 -- It is so of an earlier evaluator, from which all stays but the table: equations read none.
-pub negated-earlier : (old mid : Evaluator) (a b : ImplId) (T : GoalTable Via) → StaysBesideTable old mid → IfSome (impl_at old.context a) (ImplIsGiven old.context)
+pub negated-earlier : (old mid : Evaluator) (a b : ImplId) (T : GoalTable Via) → StaysBesideSteps old mid → IfSome (impl_at old.context a) (ImplIsGiven old.context)
     → IfSome (impl_at old.context b) (ImplIsGiven old.context) → (n : ℕ) → OfDeclared mid.context a b (IsNegatedBy mid (aside (state mid)) T n)
     → OfDeclared old.context a b (IsNegatedBy old (aside (state old)) T n)
 negated-earlier old mid a b T stays given other n h =

@@ -37,8 +37,7 @@ use Rattle.candidate_rounds.specs.Evaluators.Interface.{Fixed, fixed, judge_of}
 use Rattle.candidate_rounds.specs.Evaluators.Known.{Evaluator, listing, state, table_of}
 use Rattle.candidate_rounds.specs.Table.Goals.{Via}
 use Rattle.candidate_rounds.specs.Table.Normalizing.{rounds_shown}
-use Rattle.candidate_rounds.specs.Table.Running.{StaysBesideTable, judged_by, with_table}
-use Rattle.candidate_rounds.proofs.Table.Running.{stays-trans}
+use Rattle.candidate_rounds.specs.Table.Running.{judged_by, with_table}
 use Rattle.rounds_judge.specs.Equations.Opening.{are_open}
 use Rattle.rounds_judge.specs.Table.GoalTable.{verdict_in}
 use Rattle.rounds_judge.specs.Table.Keys.{key_at}
@@ -49,7 +48,7 @@ use Rattle.overlaps.specs.Asked.{AsksUnder}
 use Rattle.overlaps.specs.Instance.{first_header, second_header}
 use Rattle.overlaps.specs.Opening.{AreOpened, IsOpenedOf}
 use Rattle.overlaps.specs.Reasons.{AddsIfOpen, HasOpenClausesAt, Here, IsAnsweredAt, IsAskedAt, IsCause, IsCauseByVerdict, IsCauseOfGoal, IsCauseOfMaybe, IsCauseOfYes, IsOpenAt, ListsAll, ListsBoth, ListsOfImpls, ListsOfPair, ListsOpen, ListsWhereEqual, OpenImpl, by_verdict, conflict_known, declared_impl, gives_values, here_after, here_at, impls_apart, impls_equal, impls_undecided, lists_none, lists_one, of_declared, of_goal, of_other_traits, open_impl, pair_apart, pair_equal, pair_undecided, passes_over, rests_on_part, says_else, stands_not, KeepsHeadersApart}
-use Rattle.overlaps.specs.Refused.{AreOpen, IsOpen, MakesHeadersEqual, clause_at, headers_equated, locals_of}
+use Rattle.overlaps.specs.Refused.{AreOpen, IsOpen, MakesHeadersEqual, StaysBesideSteps, clause_at, headers_equated, locals_of}
 use Rattle.overlaps.specs.Uncertain.{HeadersHaveAlias}
 use Rattle.overlaps.specs.declared.opening.Opened.{Opened}
 use Rattle.overlaps.specs.declared.opening.Pair.{Pair}
@@ -58,6 +57,7 @@ use Rattle.overlaps.specs.declared.reasons.OpenClause.{OpenClause}
 use Rattle.overlaps.proofs.AskedClauses.{AreClausesOf, clauses-kept}
 use Rattle.overlaps.proofs.PureFolder.{StaysAsAsked, asked-refl}
 use Rattle.overlaps.proofs.Refusing.{got-fits, instance-kept}
+use Rattle.overlaps.proofs.Staying.{stays-trans}
 
 -- what is fixed stays where all stays but nodes
 pub fixed-kept : {r s : Evaluator} → StaysAsAsked r s → judged_by s ≡ judged_by r

@@ -18,22 +18,20 @@ use Rattle.candidate_assembly.specs.Goals.TraitGoals.{trait_goal}
 use Rattle.candidate_rounds.specs.Evaluators.Interface.{Fixed, fixed}
 use Rattle.candidate_rounds.specs.Evaluators.Known.{Evaluator, probes, state, sure_of, table_of}
 use Rattle.candidate_rounds.specs.Table.Goals.{Via}
-use Rattle.candidate_rounds.specs.Table.Running.{StaysBesideTable}
 use Rattle.candidate_rounds.proofs.Table.Noted.{sure-fixed}
-use Rattle.candidate_rounds.proofs.Table.Running.{stays-refl, stays-trans}
 use Rattle.rounds_judge.specs.Table.GoalTable.{GoalTable, verdict_in}
 use Rattle.rounds_judge.specs.Table.Keys.{key_at}
 use Rattle.overlaps.specs.Answered.{AllHold, BothHold, Holds, ImplHolds, IsPlainYes, answered, assumed, is_outlives}
 use Rattle.overlaps.specs.Opening.{IsOpenedOf, IsOpenedWith}
-use Rattle.overlaps.specs.Refused.{AreOpen, IsOpen, locals_of}
+use Rattle.overlaps.specs.Refused.{AreOpen, IsOpen, StaysBesideSteps, locals_of}
 use Rattle.overlaps.specs.declared.opening.Opened.{Opened}
 use Rattle.overlaps.specs.declared.opening.Pair.{Pair}
 use Rattle.overlaps.proofs.Refusing.{got-fits, instance-kept}
-use Rattle.overlaps.proofs.Staying.{context_of, stays-kept}
+use Rattle.overlaps.proofs.Staying.{context_of, stays-kept, stays-refl, stays-trans}
 
 -- All stays but nodes and what is known.
 pub record StaysAsAsked (old new : Evaluator) : Type 0 where
-  pub stays : StaysBesideTable old new
+  pub stays : StaysBesideSteps old new
   pub table : table_of new ≡ table_of old
 
 pub asked-kept : {r s : Evaluator} → Keeps fixed probes context_of r s → state s ≡ state r → StaysAsAsked r s
@@ -42,12 +40,12 @@ asked-kept h e = record { stays = stays-kept h e; table = ap (λ (f : Fixed). f.
 pub asked-refl : (r : Evaluator) → StaysAsAsked r r
 asked-refl r = record { stays = stays-refl r; table = refl }
 
-pub asked-then : {r s t : Evaluator} → StaysAsAsked r s → StaysBesideTable s t → table_of t ≡ table_of s → StaysAsAsked r t
+pub asked-then : {r s t : Evaluator} → StaysAsAsked r s → StaysBesideSteps s t → table_of t ≡ table_of s → StaysAsAsked r t
 asked-then g h e = record { stays = stays-trans g.stays h; table = e ∙ g.table }
 
 -- The same, told what of the table is sure.
 pub record StaysSure (old new : Evaluator) : Type 0 where
-  pub stays : StaysBesideTable old new
+  pub stays : StaysBesideSteps old new
   pub sure : sure_of new ≡ sure_of old
 
 pub sure-kept : {r s : Evaluator} → Keeps fixed probes context_of r s → state s ≡ state r → StaysSure r s
@@ -56,7 +54,7 @@ sure-kept h e = record { stays = stays-kept h e; sure = sure-fixed h.fixed_same 
 pub sure-refl : (r : Evaluator) → StaysSure r r
 sure-refl r = record { stays = stays-refl r; sure = refl }
 
-pub sure-then : {r s t : Evaluator} → StaysSure r s → StaysBesideTable s t → sure_of t ≡ sure_of s → StaysSure r t
+pub sure-then : {r s t : Evaluator} → StaysSure r s → StaysBesideSteps s t → sure_of t ≡ sure_of s → StaysSure r t
 sure-then g h e = record { stays = stays-trans g.stays h; sure = e ∙ g.sure }
 
 -- two calls that change nothing of what is fixed, nor the state
@@ -113,7 +111,7 @@ holds-earlier old now f locals xs n x kept a fit is h =
     let e = instance-kept old.context now.context locals x kept.stays.grows a (got-fits old.context.trees xs n x fit is) in
     subst (λ (q : GoalTable Via × State × Tree). Holds f q.0 q.1 (resolved_tree q.1 q.2)) (λ i. (g i, s i, e i)) h
 
-pub one-answered : (old now next : Evaluator) (env : ParamEnv) (locals : Args) (xs : List Clause) (n : ℕ) (x : Clause) → AnsweredSoFar old now env locals xs n → StaysBesideTable now next
+pub one-answered : (old now next : Evaluator) (env : ParamEnv) (locals : Args) (xs : List Clause) (n : ℕ) (x : Clause) → AnsweredSoFar old now env locals xs n → StaysBesideSteps now next
     → table_of next ≡ table_of now → sure_of next ≡ sure_of now → IsParamEnv old.context.trees env → IsArgs old.context.trees locals → ClauseListFits old.context.trees xs → slice_get xs n ≡ Some x
     → Holds (env_forest now.context.trees env) (sure_of now) (state now) (resolved_tree (state now) (substituted_tree (args_forest now.context.trees locals) (clause_tree now.context.trees x)))
     → AnsweredSoFar old next env locals xs (n + 1)
@@ -145,7 +143,7 @@ all-answered old now env locals xs n so end = λ k x is.
     let below = got-below xs k x is in
     so.hold k x (omega (arith, below, end)) is
 
-pub impl-earlier : (old now : Evaluator) (o : Opened) → StaysBesideTable old now → sure_of now ≡ sure_of old → IsOpen old.context.trees o
+pub impl-earlier : (old now : Evaluator) (o : Opened) → StaysBesideSteps old now → sure_of now ≡ sure_of old → IsOpen old.context.trees o
     → ImplHolds now.context.trees (sure_of now) (state now) o → ImplHolds old.context.trees (sure_of old) (state old) o
 impl-earlier old now o stays sure known h = λ n x is. holds-earlier old now none o.locals o.wheres.items n x (record { stays = stays; sure = sure }) known.0 known.2.fit is (h n x is)
 

@@ -17,10 +17,9 @@ use Rattle.candidate_assembly.specs.Goals.TraitGoals.{trait_goal}
 use Rattle.candidate_assembly.proofs.Calls.Keeping.{trait-goal-says}
 use Rattle.candidate_rounds.specs.Evaluators.Interface.{Fixed, fixed, judge_of}
 use Rattle.candidate_rounds.specs.Evaluators.Known.{Evaluator, state}
-use Rattle.candidate_rounds.specs.Table.Running.{StaysBesideTable}
 use Rattle.overlaps.specs.Goals.{WasRefused}
 use Rattle.overlaps.specs.PartTraits.{HaveVariable, RestsOnPart}
-use Rattle.overlaps.specs.Refused.{ClauseWasRefused, RefusesHere, RefusesInstances, RefusesOne, RefusesPredicate, goal_alone}
+use Rattle.overlaps.specs.Refused.{ClauseWasRefused, RefusesHere, RefusesInstances, RefusesOne, RefusesPredicate, StaysBesideSteps, goal_alone}
 
 -- the goal of an environment without clauses
 pub goal-is-alone : (old new : Context) (env : ParamEnv) (p : TraitPredicate) → Grows old new → IsParamEnv old.trees env → IsArgs old.trees p.trait_ref.args → env_forest old.trees env ≡ none
@@ -30,28 +29,27 @@ goal-is-alone old new env p g e a empty =
     = λ x. record { env = x; reference = record { trait = p.trait_ref.def_id.0; arguments = args_forest old.trees p.trait_ref.args }; polarity = p.polarity } in
     (trait-goal-says old new env p g e a).seen ∙ ap with empty
 
-pub predicate-refused : (old mid new : Evaluator) (env : ParamEnv) (p : TraitPredicate) → StaysBesideTable old mid → fixed new ≡ fixed mid → IsParamEnv old.context.trees env
-    → IsArgs old.context.trees p.trait_ref.args → env_forest old.context.trees env ≡ none → WasRefused (judge_of (fixed mid)) mid.context (state mid) (trait_goal mid.context.trees env p)
-    → RefusesPredicate old new p
-predicate-refused old mid new env p stays f e a empty h =
+pub predicate-refused : (old mid new : Evaluator) (env : ParamEnv) (p : TraitPredicate) → Grows old.context mid.context → state mid ≡ state old → fixed new ≡ fixed mid
+    → IsParamEnv old.context.trees env → IsArgs old.context.trees p.trait_ref.args → env_forest old.context.trees env ≡ none
+    → WasRefused (judge_of (fixed mid)) mid.context (state mid) (trait_goal mid.context.trees env p) → RefusesPredicate old new p
+predicate-refused old mid new env p grows s f e a empty h =
     let z = sym f in
-    let s = stays.state_same in
-    let g = goal-is-alone old.context mid.context env p stays.grows e a empty in
+    let g = goal-is-alone old.context mid.context env p grows e a empty in
     record {
       context = mid.context;
-      earlier = stays.grows;
+      earlier = grows;
       refused = subst (λ (q : Fixed × State × TraitGoal). WasRefused (judge_of q.0) mid.context q.1 q.2) (λ i. (z i, s i, g i)) h;
     }
 
 -- The predicate is what a clause says, with all values put in.
 -- And each of its instances, by what is asked of the context that is left.
-pub instances-refused : (old mid new : Evaluator) (env : ParamEnv) (p : TraitPredicate) → StaysBesideTable old mid → Grows mid.context new.context → fixed new ≡ fixed mid
+pub instances-refused : (old mid new : Evaluator) (env : ParamEnv) (p : TraitPredicate) → StaysBesideSteps old mid → Grows mid.context new.context → fixed new ≡ fixed mid
     → IsParamEnv old.context.trees env → IsArgs old.context.trees p.trait_ref.args → env_forest old.context.trees env ≡ none
     → WasRefused (judge_of (fixed mid)) mid.context (state mid) (trait_goal mid.context.trees env p)
     → (HaveVariable (args_forest new.context.trees p.trait_ref.args) → RestsOnPart new.context p.trait_ref.def_id → ⊥) → RefusesInstances old new p
 unfolding predicate-refused
 instances-refused old mid new env p stays g f e a empty h never = record {
-  refuses = predicate-refused old mid new env p stays f e a empty h;
+  refuses = predicate-refused old mid new env p stays.grows stays.state_same f e a empty h;
   of_instances = λ some. record {
     later = new.context;
     grows = g;
@@ -86,7 +84,7 @@ here-probed old began ran new t cx same f h =
     }
 
 -- It is so of an earlier evaluator, from which all stayed but the table.
-here-earlier : (old mid new : Evaluator) (t u : Tree) → StaysBesideTable old mid → u ≡ t → RefusesHere mid new u → RefusesHere old new t
+here-earlier : (old mid new : Evaluator) (t u : Tree) → StaysBesideSteps old mid → u ≡ t → RefusesHere mid new u → RefusesHere old new t
 here-earlier old mid new t u stays e h =
     let s = stays.state_same in
     record {
@@ -120,7 +118,7 @@ got-there (x ∷ xs) (suc n) d l = let m : n < length xs = omega (arith, l) in g
 
 -- One of several clauses
 
-pub one-refused : (old mid new : Evaluator) (locals : Args) (xs : List Clause) (n : ℕ) (x : Clause) → StaysBesideTable old mid → IsArgs old.context.trees locals → ClauseListFits old.context.trees xs
+pub one-refused : (old mid new : Evaluator) (locals : Args) (xs : List Clause) (n : ℕ) (x : Clause) → StaysBesideSteps old mid → IsArgs old.context.trees locals → ClauseListFits old.context.trees xs
     → slice_get xs n ≡ Some x → RefusesHere mid new (substituted_tree (args_forest mid.context.trees locals) (clause_tree mid.context.trees x))
     → RefusesOne old new (args_forest old.context.trees locals) xs n
 one-refused old mid new locals xs n x stays a fit is h =
@@ -131,6 +129,6 @@ one-refused old mid new locals xs n x stays a fit is h =
       refuses = here-earlier old mid new (substituted_tree (args_forest old.context.trees locals) (clause_tree old.context.trees x)) _ stays same h;
     }
 
-pub one-earlier : (old mid new : Evaluator) (locals : Args) (xs : List Clause) (n : ℕ) → StaysBesideTable old mid → IsArgs old.context.trees locals → ClauseListFits old.context.trees xs
+pub one-earlier : (old mid new : Evaluator) (locals : Args) (xs : List Clause) (n : ℕ) → StaysBesideSteps old mid → IsArgs old.context.trees locals → ClauseListFits old.context.trees xs
     → RefusesOne mid new (args_forest mid.context.trees locals) xs n → RefusesOne old new (args_forest old.context.trees locals) xs n
 one-earlier old mid new locals xs n stays a fit h = one-refused old mid new locals xs n h.clause stays a fit h.is h.refuses

@@ -17,8 +17,9 @@ use Rattle.candidate_eval.specs.Judges.States.{State}
 use Rattle.candidate_rounds.specs.Evaluators.Interface.{Fixed, fixed}
 use Rattle.candidate_rounds.specs.Evaluators.Known.{Evaluator, probes, table_of}
 use Rattle.candidate_rounds.specs.Table.Normalizing.{rounds_shown}
-use Rattle.candidate_rounds.specs.Table.Running.{StaysBesideTable, with_table}
-use Rattle.overlaps.specs.Refused.{StaysBesideKnown}
+use Rattle.candidate_rounds.specs.Table.Running.{as_it_is, with_table}
+use Rattle.candidate_rounds.proofs.Table.Coming.{comes-before, comes-same, comes-then}
+use Rattle.overlaps.specs.Refused.{StaysBesideKnown, StaysBesideSteps}
 use Rattle.overlaps.specs.Stopping.{IsLater, IsOverlapStop, IsStepStop, step_asking}
 use Rattle.overlaps.proofs.Staying.{context_of}
 
@@ -36,22 +37,26 @@ substitute-somehow {context = context} {a = a} k n list kept h = making (of_tree
 -- Later evaluators
 
 pub later-refl : (r : Evaluator) → IsLater r r
-later-refl r = record { grows = grows-refl r.context; fixed_same = refl }
+later-refl r = record { grows = grows-refl r.context; fixed_same = refl; table = as_it_is }
 
 pub later-then : {r s t : Evaluator} → IsLater r s → IsLater s t → IsLater r t
-later-then {r} {s} {t} g h = record { grows = grows-trans r.context s.context t.context g.grows h.grows; fixed_same = h.fixed_same ∙ g.fixed_same }
-
-pub later-kept : {P : List (List ℕ) → List (List ℕ) → Type 0} {r s : Evaluator} → KeepsBut P fixed probes context_of r s → IsLater r s
-later-kept h = record { grows = h.grows; fixed_same = ap (λ f. with_table f []) h.fixed_same }
-
-pub later-table : {r s : Evaluator} → StaysBesideTable r s → IsLater r s
-later-table h = record { grows = h.grows; fixed_same = h.fixed_same }
-
-pub later-known : {r s : Evaluator} → StaysBesideKnown r s → IsLater r s
-later-known h = record { grows = h.grows; fixed_same = h.fixed_same }
+later-then {r} {s} {t} g h = record {
+  grows = grows-trans r.context s.context t.context g.grows h.grows;
+  fixed_same = h.fixed_same ∙ g.fixed_same;
+  table = comes-then g.table (comes-before g.grows g.fixed_same h.table);
+}
 
 pub later-begun : {r s : Evaluator} → Grows r.context s.context → fixed s ≡ fixed r → IsLater r s
-later-begun g f = record { grows = g; fixed_same = ap (λ x. with_table x []) f }
+later-begun g f = record { grows = g; fixed_same = ap (λ x. with_table x []) f; table = comes-same (ap (λ (x : Fixed). x.table) f) }
+
+pub later-kept : {P : List (List ℕ) → List (List ℕ) → Type 0} {r s : Evaluator} → KeepsBut P fixed probes context_of r s → IsLater r s
+later-kept h = later-begun h.grows h.fixed_same
+
+pub later-steps : {r s : Evaluator} → StaysBesideSteps r s → IsLater r s
+later-steps h = record { grows = h.grows; fixed_same = h.fixed_same; table = h.table }
+
+pub later-known : {r s : Evaluator} → StaysBesideKnown r s → IsLater r s
+later-known h = record { grows = h.grows; fixed_same = h.fixed_same; table = h.table }
 
 -- Stops
 

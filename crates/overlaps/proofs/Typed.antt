@@ -22,11 +22,10 @@ use Rattle.candidate_assembly.proofs.Opaques.OpaqueAnswers.{empty-is}
 use Rattle.candidate_rounds.specs.Evaluators.Interface.{Rest, fixed, judge_of, rest}
 use Rattle.candidate_rounds.specs.Evaluators.Known.{Each, Evaluator, state, sure_of}
 use Rattle.candidate_rounds.specs.Table.Goals.{Via}
-use Rattle.candidate_rounds.specs.Table.Running.{StaysBesideTable}
 use Rattle.candidate_rounds.proofs.Snapshots.Knowing.{each-append}
 use Rattle.rounds_judge.specs.Table.GoalTable.{GoalTable}
 use Rattle.overlaps.specs.Answered.{Holds}
-use Rattle.overlaps.specs.Refused.{StaysBesideKnown}
+use Rattle.overlaps.specs.Refused.{StaysBesideKnown, StaysBesideSteps}
 use Rattle.overlaps.specs.Specialized.{AreTakenUp, HoldBy, HoldsAsSaid, HoldsAt, IsFoundOfLeft, IsFoundWhereEqual, IsLeft, IsTakenUp, IsTypedAs, IsTypedBy, Left, as_it_is, clauses_with, one_is_as_said, one_is_left, one_is_typed, trees_of, what_is_left, with_its_type, with_values}
 use Rattle.overlaps.specs.Stopping.{IsLater}
 use Rattle.overlaps.specs.declared.opening.Opened.{Opened}
@@ -226,7 +225,7 @@ pub record HeldSoFar (old now : Evaluator) (env : Env) (left : List Left) (n : �
   pub asked : StaysSure old now
   pub follows : Each (λ l. HoldsAt old env (clause_tree old.context.trees l.1)) (drop n left) → Each (λ l. HoldsAt old env (clause_tree old.context.trees l.1)) left
 
-pub one-held : (old now new : Evaluator) (env : ParamEnv) (left : List Left) (x : Left) (n : ℕ) → HeldSoFar old now (env_forest old.context.trees env) left n → StaysBesideTable now new → sure_of new ≡ sure_of now
+pub one-held : (old now new : Evaluator) (env : ParamEnv) (left : List Left) (x : Left) (n : ℕ) → HeldSoFar old now (env_forest old.context.trees env) left n → StaysBesideSteps now new → sure_of new ≡ sure_of now
     → IsParamEnv old.context.trees env → IsLeft old.context.trees x → drop n left ≡ x ∷ drop (n + 1) left → HoldsAt now (env_forest now.context.trees env) (clause_tree now.context.trees x.1)
     → HeldSoFar old new (env_forest old.context.trees env) left (n + 1)
 one-held old now new env left x n so stays table e fit split h =
@@ -246,7 +245,7 @@ pub all-held : (old now : Evaluator) (env : Env) (left : List Left) (n : ℕ) �
 all-held old now env left n so end = so.follows (subst (Each (λ (l : Left). HoldsAt old env (clause_tree old.context.trees l.1))) (sym (drop_all n left end)) tt)
 
 -- What is found of those that are left, by an earlier evaluator, where some were run.
-pub found-left : (old ran new : Evaluator) (env : ParamEnv) (left : List Left) → StaysBesideTable old ran → sure_of new ≡ sure_of ran → IsParamEnv old.context.trees env → Each (IsLeft old.context.trees) left
+pub found-left : (old ran new : Evaluator) (env : ParamEnv) (left : List Left) → StaysBesideSteps old ran → sure_of new ≡ sure_of ran → IsParamEnv old.context.trees env → Each (IsLeft old.context.trees) left
     → Each (λ l. HoldsAt ran (env_forest ran.context.trees env) (clause_tree ran.context.trees l.1)) left
     → Each (λ l. Holds (env_forest old.context.trees env) (sure_of new) (state old) (resolved_tree (state old) (clause_tree old.context.trees l.1))) left
 found-left old ran new env [] stays table e fit h = tt

@@ -23,7 +23,6 @@ use Rattle.candidate_rounds.specs.Evaluators.Interface.{Fixed, fixed, judge_of}
 use Rattle.candidate_rounds.specs.Evaluators.Known.{Evaluator, state, sure_of, table_of}
 use Rattle.candidate_rounds.specs.Evaluators.Leaking.{Leaks}
 use Rattle.candidate_rounds.specs.Table.Goals.{Via, unless_noted}
-use Rattle.candidate_rounds.specs.Table.Running.{StaysBesideTable}
 use Rattle.candidate_rounds.proofs.Table.Noted.{sure-fixed}
 use Rattle.rounds_judge.specs.Table.GoalTable.{GoalTable, verdict_in}
 use Rattle.rounds_judge.specs.Table.Keys.{key_at}
@@ -32,7 +31,7 @@ use Rattle.overlaps.specs.Answered.{IsPlainYes, is_outlives}
 use Rattle.overlaps.specs.Apart.{OfDeclared, aside, opened}
 use Rattle.overlaps.specs.Instance.{first_header, second_header, unless_leaking}
 use Rattle.overlaps.specs.Opening.{AreOpened, IsOpenedOf}
-use Rattle.overlaps.specs.Refused.{AreOpen, IsOpen, MakesHeadersEqual, clause_at, headers_equated, locals_of}
+use Rattle.overlaps.specs.Refused.{AreOpen, IsOpen, MakesHeadersEqual, StaysBesideSteps, clause_at, headers_equated, locals_of}
 use Rattle.overlaps.specs.Uncertain.{EitherHoldsNot, HeadersHaveAlias, HoldsNot, HoldsNotAt, ImplHoldsNot, ImplsAreUncertain, IsUnanswered, IsUncertainWhereEqual, OneHoldsNot, PairIsUncertain, WhereUncertain, by_part, impls_have_alias, impls_have_clause, impls_leak, no_goal, no_plain_yes, pair_has_alias, pair_has_clause, pair_leaks, says_else, unanswered}
 use Rattle.overlaps.specs.declared.opening.Opened.{Opened}
 use Rattle.overlaps.specs.declared.opening.Pair.{Pair}
@@ -52,7 +51,7 @@ goal-later old mid env p g e a =
     ap (λ (q : Env × Forest). let z : TraitGoal = record { env = q.0; reference = record { trait = p.trait_ref.def_id.0; arguments = q.1 }; polarity = p.polarity } in z) (λ i. (x i, y i))
 
 -- What is sure of a goal, by what was noted of it at a later evaluator.
-pub sure-there : (old mid : Evaluator) (env : ParamEnv) (p : TraitPredicate) (noted : Bool) → StaysBesideTable old mid → table_of mid ≡ table_of old → sure_of mid ≡ sure_of old → IsParamEnv old.context.trees env
+pub sure-there : (old mid : Evaluator) (env : ParamEnv) (p : TraitPredicate) (noted : Bool) → StaysBesideSteps old mid → table_of mid ≡ table_of old → sure_of mid ≡ sure_of old → IsParamEnv old.context.trees env
     → IsArgs old.context.trees p.trait_ref.args
     → verdict_in (sure_of mid) (key_at (state mid) (trait_goal mid.context.trees env p)) ≡ unless_noted noted (verdict_in (table_of mid) (key_at (state mid) (trait_goal mid.context.trees env p)))
     → verdict_in (sure_of old) (key_at (state old) (trait_goal old.context.trees env p)) ≡ unless_noted noted (verdict_in (table_of old) (key_at (state old) (trait_goal old.context.trees env p)))

@@ -15,8 +15,8 @@ use Rattle.candidate_eval.specs.Interface.Evaluators.{accepted}
 use Rattle.candidate_eval.specs.Judges.States.{Judge, State, fresh_variables, resolved_tree}
 use Rattle.candidate_assembly.specs.Answers.KnownImpls.{header_at, kinds_of_impl}
 use Rattle.candidate_rounds.specs.Evaluators.Interface.{fixed, judge_of}
-use Rattle.candidate_rounds.specs.Evaluators.Known.{Evaluator, listing, probes, state}
-use Rattle.candidate_rounds.specs.Table.Running.{PutsOffByGoals, with_table}
+use Rattle.candidate_rounds.specs.Evaluators.Known.{Evaluator, listing, probes, state, table_of}
+use Rattle.candidate_rounds.specs.Table.Running.{ComesFrom, PutsOffByGoals, with_table}
 use Rattle.rounds_judge.specs.Equations.Opening.{are_open}
 use Rattle.overlaps.specs.Apart.{aside, opened}
 use Rattle.overlaps.specs.Goals.{WasRefused}
@@ -25,12 +25,22 @@ use Rattle.overlaps.specs.declared.opening.Opened.{Opened}
 use Rattle.overlaps.specs.declared.opening.Pair.{Pair}
 use Rattle.overlaps.specs.declared.overlap.WhereClause.{WhereClause}
 
--- Of an evaluator all is as it was but what is known, the table, and such faults as goals put off.
+-- Of an evaluator all is as it was but the table, which comes by steps from the one that was there, and such faults as goals put off.
+pub record StaysBesideSteps (old new : Evaluator) : Type 0 where
+  pub grows : Grows old.context new.context
+  pub fixed_same : with_table (fixed new) [] ≡ with_table (fixed old) []
+  pub state_same : state new ≡ state old
+  pub probes_same : probes new ≡ probes old
+  pub faults : PutsOffByGoals old.context.delayed_bugs new.context.delayed_bugs
+  pub table : ComesFrom old (table_of old) (table_of new)
+
+-- The same, but that what is known may be otherwise.
 pub record StaysBesideKnown (old new : Evaluator) : Type 0 where
   pub grows : Grows old.context new.context
   pub fixed_same : with_table (fixed new) [] ≡ with_table (fixed old) []
   pub probes_same : probes new ≡ probes old
   pub faults : PutsOffByGoals old.context.delayed_bugs new.context.delayed_bugs
+  pub table : ComesFrom old (table_of old) (table_of new)
 
 -- the goal of a predicate without an environment
 abbrev pub goal_alone : List Tree → TraitPredicate → TraitGoal

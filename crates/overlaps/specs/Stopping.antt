@@ -19,7 +19,7 @@ use Rattle.candidate_rounds.specs.Table.Goals.{Via}
 use Rattle.candidate_rounds.specs.Table.Normalized.{IsNormalized}
 use Rattle.candidate_rounds.specs.Table.Normalizing.{rounds_shown}
 use Rattle.candidate_rounds.specs.Table.Projected.{IsGivingNormalStop}
-use Rattle.candidate_rounds.specs.Table.Running.{IsRunStop, with_table}
+use Rattle.candidate_rounds.specs.Table.Running.{ComesFrom, IsRunStop, with_table}
 use Rattle.rounds_judge.specs.Table.GoalTable.{GoalTable}
 use Rattle.candidate_rounds.specs.declared.rounds.effort.Effort.{Effort}
 
@@ -42,11 +42,12 @@ pub data IsStepStop (first : Evaluator) (ts : List Tree) (T : GoalTable Via) (s 
   step_giving : (g : TraitGoal) (a : Response) → IsGivingNormalStop ts (listing first) (state first) g a s → IsStepStop first ts T s
   step_numbering : (f : Forest) → IsCanonicalStop ts f s → IsStepStop first ts T s
 
--- It is the evaluator later on: what is declared and given is the same, by more trees; the table, what is known and the open probes may be
--- others.
+-- It is the evaluator later on: what is declared and given is the same, by more trees; and its table comes by steps from the one that was there.
+-- What is known, what is noted and the open probes may be others.
 pub record IsLater (old new : Evaluator) : Type 0 where
   pub grows : Grows old.context new.context
   pub fixed_same : with_table (fixed new) [] ≡ with_table (fixed old) []
+  pub table : ComesFrom old (table_of old) (table_of new)
 
 -- A step stopped that began later.
 pub record IsOverlapStop (old new : Evaluator) (s : Stop) : Type 0 where

@@ -10,12 +10,11 @@ ghost use Rattle.ir_trees.specs.Syntax.Words.{IsArgs, IsClause, IsParamEnv, args
 ghost use Rattle.candidate_assembly.specs.Goals.TraitGoals.{trait_goal};
 ghost use Rattle.candidate_rounds.specs.Evaluators.Known.{state, sure_of, table_of};
 ghost use Rattle.candidate_rounds.specs.Table.Goals.{IsVerdict, verdict_seen};
-ghost use Rattle.candidate_rounds.specs.Table.Running.{StaysBesideTable};
 ghost use Rattle.rounds_judge.specs.Table.GoalTable.{verdict_in};
 ghost use Rattle.rounds_judge.specs.Table.Keys.{key_at};
 ghost use Rattle.overlaps.specs.Answered.{AllHold, BothHold, HoldsWith, ImplHolds, IsPlainYes, is_outlives};
 ghost use Rattle.overlaps.specs.Stopping.{IsOverlapStop};
-ghost use Rattle.overlaps.specs.Refused.{AreOpen, IsOpen};
+ghost use Rattle.overlaps.specs.Refused.{AreOpen, IsOpen, StaysBesideSteps};
 ghost use Rattle.overlaps.specs.Uncertain.{EitherHoldsNot, HoldsNotAt, HoldsNotWith, ImplHoldsNot, IsUnanswered};
 
 use crate::auto::may_rest_on_part;
@@ -69,7 +68,7 @@ pub(crate) fn is_predicate_answered(
     requires env { IsParamEnv rounds.old.context.trees env }
     requires args { IsArgs rounds.old.context.trees predicate.trait_ref.args }
     requires fit { ArgumentsFit rounds.old.context predicate.trait_ref }
-    ensures stays { StaysBesideTable rounds.old rounds.new }
+    ensures stays { StaysBesideSteps rounds.old rounds.new }
     ensures table { table_of rounds.new ≡ table_of rounds.old }
     ensures sure { sure_of rounds.new ≡ sure_of rounds.old }
     ensures answered { let r = rounds.old in IfOk result (λ b. b ≡ true → IsPlainYes (verdict_in (sure_of r) (key_at (state r) (trait_goal r.context.trees env predicate)))) }
@@ -103,7 +102,7 @@ fn is_clause_answered(
     requires clause { IsClause rounds.old.context.trees clause }
     requires locals { IsArgs rounds.old.context.trees locals }
     requires there { tree_holds (lacks_argument (args_forest rounds.old.context.trees locals)) (clause_tree rounds.old.context.trees clause) ≡ false }
-    ensures stays { StaysBesideTable rounds.old rounds.new }
+    ensures stays { StaysBesideSteps rounds.old rounds.new }
     ensures table { table_of rounds.new ≡ table_of rounds.old }
     ensures sure { sure_of rounds.new ≡ sure_of rounds.old }
     ensures holds { let r = rounds.old in let ts = r.context.trees in IfOk result (λ b. b ≡ true → HoldsWith (env_forest ts env) ts (sure_of r) (state r) (args_forest ts locals) clause) }
@@ -132,7 +131,7 @@ pub(crate) fn first_unanswered(
     requires env { IsParamEnv rounds.old.context.trees env }
     requires locals { IsArgs rounds.old.context.trees locals }
     requires clauses { ClausesAreOwned rounds.old.context.trees (args_forest rounds.old.context.trees locals) clauses.now }
-    ensures stays { StaysBesideTable rounds.old rounds.new }
+    ensures stays { StaysBesideSteps rounds.old rounds.new }
     ensures table { table_of rounds.new ≡ table_of rounds.old }
     ensures sure { sure_of rounds.new ≡ sure_of rounds.old }
     ensures hold { let r = rounds.old in let ts = r.context.trees in IfOk result (λ o. o ≡ None → AllHold (env_forest ts env) ts (sure_of r) (state r) (args_forest ts locals) clauses.now) }
@@ -157,7 +156,7 @@ fn is_impl_answered(
     requires env { IsParamEnv rounds.old.context.trees env }
     requires empty { env_forest rounds.old.context.trees env ≡ none }
     requires open { IsOpen rounds.old.context.trees of.now }
-    ensures stays { StaysBesideTable rounds.old rounds.new }
+    ensures stays { StaysBesideSteps rounds.old rounds.new }
     ensures table { table_of rounds.new ≡ table_of rounds.old }
     ensures sure { sure_of rounds.new ≡ sure_of rounds.old }
     ensures hold { let r = rounds.old in IfOk result (λ b. b ≡ true → ImplHolds r.context.trees (sure_of r) (state r) of.now) }
@@ -181,7 +180,7 @@ pub(crate) fn are_answered(
     requires env { IsParamEnv rounds.old.context.trees env }
     requires empty { env_forest rounds.old.context.trees env ≡ none }
     requires pair { AreOpen rounds.old.context.trees pair.now }
-    ensures stays { StaysBesideTable rounds.old rounds.new }
+    ensures stays { StaysBesideSteps rounds.old rounds.new }
     ensures table { table_of rounds.new ≡ table_of rounds.old }
     ensures sure { sure_of rounds.new ≡ sure_of rounds.old }
     ensures hold { let r = rounds.old in IfOk result (λ b. b ≡ true → BothHold r.context.trees (sure_of r) (state r) pair.now) }

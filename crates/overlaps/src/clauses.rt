@@ -13,10 +13,9 @@ ghost use Rattle.candidate_assembly.specs.Goals.Standing.{GoalIsValid};
 ghost use Rattle.candidate_assembly.specs.Goals.TraitGoals.{trait_goal};
 ghost use Rattle.candidate_assembly.specs.Goals.TraitRules.{trait_rules};
 ghost use Rattle.candidate_rounds.specs.Evaluators.Known.{state, table_of};
-ghost use Rattle.candidate_rounds.specs.Table.Running.{StaysBesideTable};
 ghost use Rattle.overlaps.specs.Asked.{AllStay, DecidesNothing, FirstStay, GoalStays, StaysHere, WasTried};
 ghost use Rattle.overlaps.specs.Stopping.{IsOverlapStop};
-ghost use Rattle.overlaps.specs.Refused.{goal_alone, RefusesHere, RefusesInstances, RefusesOne, StaysBesideKnown};
+ghost use Rattle.overlaps.specs.Refused.{RefusesHere, RefusesInstances, RefusesOne, StaysBesideKnown, StaysBesideSteps, goal_alone};
 ghost use Rattle.candidate_rounds.specs.Table.Efforts.{IsEffort};
 
 use crate::auto::refuses_instances;
@@ -45,7 +44,7 @@ pub fn may_decide(
     requires env { IsParamEnv rounds.old.context.trees env }
     requires args { IsArgs rounds.old.context.trees predicate.trait_ref.args }
     requires pending { (state rounds.old).pending ≡ [] }
-    ensures stays { StaysBesideTable rounds.old rounds.new }
+    ensures stays { StaysBesideSteps rounds.old rounds.new }
     ensures goal { IfOk result (λ b. b ≡ true → IsGoal trait_kind rounds.new.context env predicate) }
     ensures stands { let c = rounds.new.context in IfOk result (λ b. b ≡ true → GoalIsValid trait_rules (state rounds.new) (trait_goal c.trees env predicate)) }
     ensures plain { let c = rounds.new.context in IfOk result (λ b. b ≡ true → IsPlainGoal (state rounds.new) (trait_goal c.trees env predicate)) }
@@ -76,7 +75,7 @@ fn run_where_it_stands(
     requires empty { env_forest rounds.old.context.trees env ≡ none }
     requires args { IsArgs rounds.old.context.trees predicate.trait_ref.args }
     requires fit { ArgumentsFit rounds.old.context predicate.trait_ref }
-    ensures stays { StaysBesideTable rounds.old rounds.new }
+    ensures stays { StaysBesideSteps rounds.old rounds.new }
     ensures tried { let r = rounds.old in OnOk result (WasTried r (state r) effort (goal_alone r.context.trees predicate) (table_of r) (table_of rounds.new)) }
     ensures cause { IfErr result (IsOverlapStop rounds.old rounds.new) }
 {
@@ -196,7 +195,7 @@ fn probe_clause(
     requires locals { IsArgs rounds.old.context.trees locals }
     requires pending { (state rounds.old).pending ≡ [] }
     requires there { tree_holds (lacks_argument (args_forest rounds.old.context.trees locals)) (clause_tree rounds.old.context.trees clause) ≡ false }
-    ensures stays { StaysBesideTable rounds.old rounds.new }
+    ensures stays { StaysBesideSteps rounds.old rounds.new }
     ensures refused { let ts = rounds.old.context.trees in IfOk result (λ b. b ≡ true → RefusesHere rounds.old rounds.new (substituted_tree (args_forest ts locals) (clause_tree ts clause))) }
     ensures asked { let r = rounds.old in IfOk result (λ b. b ≡ false → StaysHere r (state r) effort (args_forest r.context.trees locals) clause (table_of r) (table_of rounds.new)) }
     ensures cause { IfErr result (IsOverlapStop rounds.old rounds.new) }
@@ -222,7 +221,7 @@ pub(crate) fn first_refused(
     requires pending { (state rounds.old).pending ≡ [] }
     requires locals { IsArgs rounds.old.context.trees locals }
     requires clauses { ClausesAreOwned rounds.old.context.trees (args_forest rounds.old.context.trees locals) clauses.now }
-    ensures stays { StaysBesideTable rounds.old rounds.new }
+    ensures stays { StaysBesideSteps rounds.old rounds.new }
     ensures refused { let ts = rounds.old.context.trees in IfOk result (λ o. IfSome o (RefusesOne rounds.old rounds.new (args_forest ts locals) clauses.now)) }
     ensures asked { let r = rounds.old in IfOk result (λ o. o ≡ None → AllStay r (state r) effort (args_forest r.context.trees locals) clauses.now (table_of r) (table_of rounds.new)) }
     ensures before { let r = rounds.old in IfOk result (λ o. IfSome o (FirstStay r (state r) effort (args_forest r.context.trees locals) clauses.now (table_of r))) }

@@ -3,8 +3,8 @@
 ghost use Rattle.std.specs.Prelude.{◌≡◌, false, IfErr, IfOk};
 ghost use Rattle.ir_trees.specs.Syntax.Words.{IsArgs, args_forest};
 ghost use Rattle.candidate_rounds.specs.Evaluators.Known.{state, sure_of, table_of};
-ghost use Rattle.candidate_rounds.specs.Table.Running.{StaysBesideTable};
 ghost use Rattle.overlaps.specs.Instance.{IsReferenceAt};
+ghost use Rattle.overlaps.specs.Refused.{StaysBesideSteps};
 ghost use Rattle.overlaps.specs.Stopping.{IsOverlapStop};
 
 use crate::opening::Opened;
@@ -46,7 +46,7 @@ pub(crate) fn common_instance(
     is_certain: bool,
 ) -> Result<CommonInstance, Stop>
     requires { IsArgs rounds.old.context.trees first.now.header }
-    ensures stays { StaysBesideTable rounds.old rounds.new }
+    ensures stays { StaysBesideSteps rounds.old rounds.new }
     ensures table { table_of rounds.new ≡ table_of rounds.old }
     ensures sure { sure_of rounds.new ≡ sure_of rounds.old }
     ensures is { IfOk result (λ x. IsReferenceAt (state rounds.old) first.now.def_id (args_forest rounds.old.context.trees first.now.header) rounds.new.context.trees x.trait_ref) }

@@ -17,13 +17,12 @@ ghost use Rattle.candidate_rounds.specs.Evaluators.Interface.{fixed, judge_of};
 ghost use Rattle.candidate_rounds.specs.Evaluators.Known.{state, sure_of, table_of};
 ghost use Rattle.candidate_rounds.specs.Table.Goals.{IsVerdict, verdict_seen};
 ghost use Rattle.candidate_rounds.specs.Table.Normalizing.{rounds_shown};
-ghost use Rattle.candidate_rounds.specs.Table.Running.{StaysBesideTable};
 ghost use Rattle.rounds_judge.specs.Table.GoalTable.{verdict_in};
 ghost use Rattle.rounds_judge.specs.Table.Keys.{key_at};
 ghost use Rattle.overlaps.specs.Answered.{HoldsForAll, IsPlainYes};
 ghost use Rattle.overlaps.specs.Apart.{OfDeclared, aside};
 ghost use Rattle.overlaps.specs.Negated.{AreImplied, ArePlugged, ClauseIsNegated, IsDenied, IsEnvironmentAt, IsKeptApart, IsNegatedBy, IsNegatedFrom, IsNegatedOfPair, IsNegatedUnder, MayBePlugged, OneIsDeniedHere, OneIsNegated, both_forests, clauses_at, turned};
-ghost use Rattle.overlaps.specs.Refused.{AreOpen, IsOpen, StaysBesideKnown, clause_at};
+ghost use Rattle.overlaps.specs.Refused.{AreOpen, IsOpen, StaysBesideKnown, StaysBesideSteps, clause_at};
 ghost use Rattle.overlaps.specs.Stopping.{IsOverlapStop};
 ghost use Rattle.candidate_rounds.specs.Table.Efforts.{IsEffort};
 
@@ -186,7 +185,7 @@ fn holds_for_all(
 ) -> Result<bool, Stop>
     requires env { IsParamEnv rounds.old.context.trees env }
     requires args { IsArgs rounds.old.context.trees predicate.trait_ref.args }
-    ensures stays { StaysBesideTable rounds.old rounds.new }
+    ensures stays { StaysBesideSteps rounds.old rounds.new }
     ensures sure { sure_of rounds.new ≡ sure_of rounds.old }
     ensures holds { let r = rounds.old in IfOk result (λ b. b ≡ true → HoldsForAll (verdict_in (table_of r) (key_at (state r) (trait_goal r.context.trees env predicate)))) }
     ensures cause { IfErr result (IsOverlapStop rounds.old rounds.new) }
@@ -209,7 +208,7 @@ fn is_answered_for_all(
     requires env { IsParamEnv rounds.old.context.trees env }
     requires args { IsArgs rounds.old.context.trees predicate.trait_ref.args }
     requires fit { ArgumentsFit rounds.old.context predicate.trait_ref }
-    ensures stays { StaysBesideTable rounds.old rounds.new }
+    ensures stays { StaysBesideSteps rounds.old rounds.new }
     ensures sure { sure_of rounds.new ≡ sure_of rounds.old }
     ensures answered { let r = rounds.old in IfOk result (λ b. b ≡ true → IsPlainYes (verdict_in (sure_of r) (key_at (state r) (trait_goal r.context.trees env predicate)))) }
     ensures for_all { let r = rounds.old in IfOk result (λ b. b ≡ true → HoldsForAll (verdict_in (sure_of r) (key_at (state r) (trait_goal r.context.trees env predicate)))) }
@@ -233,7 +232,7 @@ fn is_negation_answered(
     requires some { IsEffort effort }
     requires env { IsParamEnv rounds.old.context.trees env }
     requires clause { IsClause rounds.old.context.trees clause }
-    ensures stays { StaysBesideTable rounds.old rounds.new }
+    ensures stays { StaysBesideSteps rounds.old rounds.new }
     ensures denied { let r = rounds.old in let ts = r.context.trees in IfOk result (λ b. b ≡ true → IsDenied (env_forest ts env) (sure_of rounds.new) (state r) (clause_tree ts clause)) }
     ensures cause { IfErr result (IsOverlapStop rounds.old rounds.new) }
 {
@@ -256,7 +255,7 @@ fn is_one_negated(
     requires some { IsEffort effort }
     requires env { IsParamEnv rounds.old.context.trees env }
     requires clauses { ClauseListFits rounds.old.context.trees clauses.now }
-    ensures stays { StaysBesideTable rounds.old rounds.new }
+    ensures stays { StaysBesideSteps rounds.old rounds.new }
     ensures denied { IfOk result (λ b. b ≡ true → OneIsDeniedHere rounds.old (sure_of rounds.new) env clauses.now) }
     ensures cause { IfErr result (IsOverlapStop rounds.old rounds.new) }
 {
@@ -322,7 +321,7 @@ fn is_clause_negated(
     requires clause { IsClause rounds.old.context.trees clause }
     requires locals { IsArgs rounds.old.context.trees locals }
     requires there { tree_holds (lacks_argument (args_forest rounds.old.context.trees locals)) (clause_tree rounds.old.context.trees clause) ≡ false }
-    ensures stays { StaysBesideTable rounds.old rounds.new }
+    ensures stays { StaysBesideSteps rounds.old rounds.new }
     ensures negated { IfOk result (λ b. b ≡ true → ClauseIsNegated rounds.old (sure_of rounds.new) env locals clause) }
     ensures cause { IfErr result (IsOverlapStop rounds.old rounds.new) }
 {
@@ -343,7 +342,7 @@ fn first_negated(
     requires env { IsParamEnv rounds.old.context.trees env }
     requires locals { IsArgs rounds.old.context.trees locals }
     requires clauses { ClausesAreOwned rounds.old.context.trees (args_forest rounds.old.context.trees locals) clauses.now }
-    ensures stays { StaysBesideTable rounds.old rounds.new }
+    ensures stays { StaysBesideSteps rounds.old rounds.new }
     ensures negated { IfOk result (λ o. IfSome o (OneIsNegated rounds.old (sure_of rounds.new) env locals clauses.now)) }
     ensures cause { IfErr result (IsOverlapStop rounds.old rounds.new) }
 {
@@ -401,7 +400,7 @@ fn negated_under(
 ) -> Result<Option<usize>, Stop>
     requires some { IsEffort effort }
     requires pair { AreOpen rounds.old.context.trees pair.now }
-    ensures stays { StaysBesideTable rounds.old rounds.new }
+    ensures stays { StaysBesideSteps rounds.old rounds.new }
     ensures negated { IfOk result (λ o. IfSome o (IsNegatedUnder rounds.old (sure_of rounds.new) pair.now)) }
     ensures cause { IfErr result (IsOverlapStop rounds.old rounds.new) }
 {
@@ -498,7 +497,7 @@ fn negated_aside(
     effort: Effort,
 ) -> Result<Option<usize>, Stop>
     requires some { IsEffort effort }
-    ensures stays { StaysBesideTable rounds.old rounds.new }
+    ensures stays { StaysBesideSteps rounds.old rounds.new }
     ensures negated { let r = rounds.old in IfOk result (λ o. IfSome o (λ n. OfDeclared r.context first second (IsNegatedBy r (aside (state r)) (sure_of rounds.new) n))) }
     ensures cause { IfErr result (IsOverlapStop rounds.old rounds.new) }
 {
@@ -529,7 +528,7 @@ pub fn kept_apart_by_negation(
     effort: Effort,
 ) -> Result<Option<WhereClause>, Stop>
     requires some { IsEffort effort }
-    ensures stays { StaysBesideTable rounds.old rounds.new }
+    ensures stays { StaysBesideSteps rounds.old rounds.new }
     ensures negated { IfOk result (λ o. IfSome o (IsKeptApart rounds.old (sure_of rounds.new) first second)) }
     ensures cause { IfErr result (IsOverlapStop rounds.old rounds.new) }
 {

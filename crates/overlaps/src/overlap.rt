@@ -4,7 +4,6 @@ ghost use Rattle.std.specs.Prelude.{◌≡◌, ◌<◌, ◌⊎◌, ◌||◌, ◌
 ghost use Rattle.ir_trees.specs.Syntax.Trees.{holds, is_alias, none};
 ghost use Rattle.ir_trees.specs.Syntax.Words.{IsParamEnv, args_forest, env_forest};
 ghost use Rattle.candidate_rounds.specs.Evaluators.Known.{listing, state, sure_of, table_of};
-ghost use Rattle.candidate_rounds.specs.Table.Running.{StaysBesideTable};
 ghost use Rattle.rounds_judge.specs.Equations.Opening.{are_open};
 ghost use Rattle.overlaps.specs.Allowed.{allowance_of, allowance_of_ordered};
 ghost use Rattle.overlaps.specs.Answered.{BothHold};
@@ -13,7 +12,7 @@ ghost use Rattle.overlaps.specs.Asked.{BothStay, ClausesBeforeWereAsked, Clauses
 ghost use Rattle.overlaps.specs.Found.{IsFoundAt, IsFoundOfPair, IsFoundWhereEqual, IsNotAllowed, IsOverlap};
 ghost use Rattle.overlaps.specs.Instance.{HaveNoAlias, TellsLeak, unless_leaking};
 ghost use Rattle.overlaps.specs.Stopping.{IsOverlapStop};
-ghost use Rattle.overlaps.specs.Refused.{AreDecided, AreOpen, RefusesOfPair, StaysBesideKnown};
+ghost use Rattle.overlaps.specs.Refused.{AreDecided, AreOpen, RefusesOfPair, StaysBesideKnown, StaysBesideSteps};
 ghost use Rattle.overlaps.specs.Uncertain.{ImplsAreUncertain, IsUncertain, IsUncertainWhereEqual, PairIsUncertain, WhereUncertain};
 ghost use Rattle.candidate_rounds.specs.Table.Efforts.{IsEffort};
 
@@ -110,7 +109,7 @@ pub(crate) fn refused_clause(
     requires empty { env_forest rounds.old.context.trees env ≡ none }
     requires pending { (state rounds.old).pending ≡ [] }
     requires pair { AreOpen rounds.old.context.trees pair.now }
-    ensures stays { StaysBesideTable rounds.old rounds.new }
+    ensures stays { StaysBesideSteps rounds.old rounds.new }
     ensures refused { IfOk result (λ o. IfSome o (RefusesOfPair rounds.old rounds.new pair.now)) }
     ensures asked { let r = rounds.old in IfOk result (λ o. o ≡ None → BothStay r (state r) effort pair.now (table_of r) (table_of rounds.new)) }
     ensures before { let r = rounds.old in IfOk result (λ o. IfSome o (StayBefore r (state r) effort pair.now (table_of r))) }
@@ -136,7 +135,7 @@ fn are_certain(alloc: Global, rounds: &mut Rounds, env: ParamEnv, pair: &Pair) -
     requires env { IsParamEnv rounds.old.context.trees env }
     requires empty { env_forest rounds.old.context.trees env ≡ none }
     requires pair { AreOpen rounds.old.context.trees pair.now }
-    ensures stays { StaysBesideTable rounds.old rounds.new }
+    ensures stays { StaysBesideSteps rounds.old rounds.new }
     ensures table { table_of rounds.new ≡ table_of rounds.old }
     ensures sure { sure_of rounds.new ≡ sure_of rounds.old }
     ensures hold { let r = rounds.old in IfOk result (λ b. b ≡ true → BothHold r.context.trees (sure_of r) (state r) pair.now) }
@@ -163,7 +162,7 @@ fn overlap_where_equal(
     requires empty { env_forest rounds.old.context.trees env ≡ none }
     requires pending { (state rounds.old).pending ≡ [] }
     requires pair { AreOpen rounds.old.context.trees pair.now }
-    ensures stays { StaysBesideTable rounds.old rounds.new }
+    ensures stays { StaysBesideSteps rounds.old rounds.new }
     ensures is { IfOk result (IsFoundWhereEqual rounds.old rounds.new pair.now) }
     ensures asked { let r = rounds.old in IfOk result (WhereMay (BothStay r (state r) effort pair.now (table_of r) (table_of rounds.new))) }
     ensures before { let r = rounds.old in IfOk result (OfClause (StayBefore r (state r) effort pair.now (table_of r))) }
@@ -206,7 +205,7 @@ fn overlap_unless_leaking(
     requires empty { env_forest rounds.old.context.trees env ≡ none }
     requires pending { (state rounds.old).pending ≡ [] }
     requires pair { AreOpen rounds.old.context.trees pair.now }
-    ensures stays { StaysBesideTable rounds.old rounds.new }
+    ensures stays { StaysBesideSteps rounds.old rounds.new }
     ensures is { IfOk result (λ o. IsFoundWhereEqual rounds.old rounds.new pair.now o × TellsLeak leaks o) }
     ensures asked { let r = rounds.old in IfOk result (WhereMay (BothStay r (state r) effort pair.now (table_of r) (table_of rounds.new))) }
     ensures before { let r = rounds.old in IfOk result (OfClause (StayBefore r (state r) effort pair.now (table_of r))) }
@@ -286,7 +285,7 @@ fn overlap_aside(
     effort: Effort,
 ) -> Result<Overlap, Stop>
     requires some { IsEffort effort }
-    ensures stays { StaysBesideTable rounds.old rounds.new }
+    ensures stays { StaysBesideSteps rounds.old rounds.new }
     ensures is { IfOk result (IsFoundAt rounds.old (aside (state rounds.old)) rounds.new first second) }
     ensures asked { let r = rounds.old in IfOk result (WhereMay (OfDeclared r.context first second (WereAsked r (aside (state r)) effort (table_of rounds.new)))) }
     ensures before { let r = rounds.old in IfOk result (OfClause (λ w. OfDeclared r.context first second (WereAskedBefore r (aside (state r)) effort first second w))) }
@@ -312,7 +311,7 @@ fn overlap_of_ordered(
     effort: Effort,
 ) -> Result<Overlap, Stop>
     requires some { IsEffort effort }
-    ensures stays { StaysBesideTable rounds.old rounds.new }
+    ensures stays { StaysBesideSteps rounds.old rounds.new }
     ensures is { IfOk result (IsFoundAt rounds.old (aside (state rounds.old)) rounds.new first second) }
     ensures asked { let r = rounds.old in IfOk result (WhereMay (OfDeclared r.context first second (WereAsked r (aside (state r)) effort (table_of rounds.new)))) }
     ensures before { let r = rounds.old in IfOk result (OfClause (λ w. OfDeclared r.context first second (WereAskedBefore r (aside (state r)) effort first second w))) }
@@ -366,7 +365,7 @@ pub fn impls_overlap(
     effort: Effort,
 ) -> Result<Overlap, Stop>
     requires some { IsEffort effort }
-    ensures stays { StaysBesideTable rounds.old rounds.new }
+    ensures stays { StaysBesideSteps rounds.old rounds.new }
     ensures is { IfOk result (IsOverlap rounds.old rounds.new first second) }
     ensures asked { IfOk result (WhereMay (ClausesWereAsked rounds.old effort (table_of rounds.new) first second)) }
     ensures before { IfOk result (OfClause (ClausesBeforeWereAsked rounds.old effort first second)) }
@@ -388,7 +387,7 @@ pub fn impls_overlap_anyway(
     effort: Effort,
 ) -> Result<Overlap, Stop>
     requires some { IsEffort effort }
-    ensures stays { StaysBesideTable rounds.old rounds.new }
+    ensures stays { StaysBesideSteps rounds.old rounds.new }
     ensures is { IfOk result (IsOverlap rounds.old rounds.new first second) }
     ensures asked { IfOk result (WhereMay (ClausesWereAsked rounds.old effort (table_of rounds.new) first second)) }
     ensures before { IfOk result (OfClause (ClausesBeforeWereAsked rounds.old effort first second)) }

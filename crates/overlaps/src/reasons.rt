@@ -12,13 +12,12 @@ ghost use Rattle.candidate_eval.specs.Outcomes.Responses as responses;
 ghost use Rattle.candidate_assembly.specs.Goals.TraitGoals.{trait_goal};
 ghost use Rattle.candidate_rounds.specs.Evaluators.Interface.{fixed, judge_of};
 ghost use Rattle.candidate_rounds.specs.Evaluators.Known.{state, table_of};
-ghost use Rattle.candidate_rounds.specs.Table.Running.{StaysBesideTable};
 ghost use Rattle.rounds_judge.specs.Table.GoalTable.{verdict_in};
 ghost use Rattle.rounds_judge.specs.Table.Keys.{key_at};
 ghost use Rattle.overlaps.specs.Answered.{Holds, IsPlainYes};
 ghost use Rattle.overlaps.specs.Apart.{aside};
 ghost use Rattle.overlaps.specs.Reasons.{AddsIfOpen, HasOpenClauses, HasOpenClausesAt, IsAskedAt, IsCause, IsCauseOfGoal, IsCauseOfMaybe, IsCauseOfYes, ListsAll, ListsOfPair, ListsWhereEqual, cause_of_unasked, conflict_at, conflict_known, here_at, open_impl};
-ghost use Rattle.overlaps.specs.Refused.{AreOpen, IsOpen, StaysBesideKnown};
+ghost use Rattle.overlaps.specs.Refused.{AreOpen, IsOpen, StaysBesideKnown, StaysBesideSteps};
 ghost use Rattle.overlaps.specs.Stopping.{IsOverlapStop};
 ghost use Rattle.candidate_rounds.specs.Table.Efforts.{IsEffort};
 
@@ -133,7 +132,7 @@ fn conflict_of(
 ) -> Result<Option<Conflict>, Stop>
     requires env { IsParamEnv rounds.old.context.trees env }
     requires args { IsArgs rounds.old.context.trees trait_ref.args }
-    ensures stays { StaysBesideTable rounds.old rounds.new }
+    ensures stays { StaysBesideSteps rounds.old rounds.new }
     ensures table { table_of rounds.new ≡ table_of rounds.old }
     ensures is { let r = rounds.old in let ts = r.context.trees in IfOk result (λ o. o ≡ conflict_at (judge_of (fixed r)) (state r) (env_forest ts env) (reference_of ts trait_ref)) }
     ensures cause { IfErr result (IsOverlapStop rounds.old rounds.new) }
@@ -161,7 +160,7 @@ fn cause_of_maybe(
 ) -> Result<Cause, Stop>
     requires env { IsParamEnv rounds.old.context.trees env }
     requires args { IsArgs rounds.old.context.trees trait_ref.args }
-    ensures stays { StaysBesideTable rounds.old rounds.new }
+    ensures stays { StaysBesideSteps rounds.old rounds.new }
     ensures table { table_of rounds.new ≡ table_of rounds.old }
     ensures is { let r = rounds.old in let ts = r.context.trees in IfOk result (IsCauseOfMaybe (judge_of (fixed r)) (state r) (env_forest ts env) (reference_of ts trait_ref)) }
     ensures cause { IfErr result (IsOverlapStop rounds.old rounds.new) }
@@ -221,7 +220,7 @@ fn cause_of_goal(
     requires env { IsParamEnv rounds.old.context.trees env }
     requires args { IsArgs rounds.old.context.trees predicate.trait_ref.args }
     requires fit { ArgumentsFit rounds.old.context predicate.trait_ref }
-    ensures stays { StaysBesideTable rounds.old rounds.new }
+    ensures stays { StaysBesideSteps rounds.old rounds.new }
     ensures table { table_of rounds.new ≡ table_of rounds.old }
     ensures answered { let r = rounds.old in IfOk result (λ o. o ≡ None → IsPlainYes (verdict_in (table_of r) (key_at (state r) (trait_goal r.context.trees env predicate)))) }
     ensures is { let r = rounds.old in IfOk result (λ o. IfSome o (IsCauseOfGoal (here_at r env) (trait_goal r.context.trees env predicate))) }
@@ -254,7 +253,7 @@ fn cause_of_clause(
 ) -> Result<Option<Cause>, Stop>
     requires env { IsParamEnv rounds.old.context.trees env }
     requires clause { IsClause rounds.old.context.trees clause }
-    ensures stays { StaysBesideTable rounds.old rounds.new }
+    ensures stays { StaysBesideSteps rounds.old rounds.new }
     ensures table { table_of rounds.new ≡ table_of rounds.old }
     ensures holds { let r = rounds.old in let ts = r.context.trees in IfOk result (λ o. o ≡ None → Holds (env_forest ts env) (table_of r) (state r) (clause_tree ts clause)) }
     ensures is { let r = rounds.old in IfOk result (λ o. IfSome o (IsCause (here_at r env) (clause_tree r.context.trees clause))) }
@@ -280,7 +279,7 @@ fn open_clause(
     requires env { IsParamEnv rounds.old.context.trees env }
     requires open { IsOpen rounds.old.context.trees of.now }
     requires number { number < length of.now.wheres.items }
-    ensures stays { StaysBesideTable rounds.old rounds.new }
+    ensures stays { StaysBesideSteps rounds.old rounds.new }
     ensures table { table_of rounds.new ≡ table_of rounds.old }
     ensures is { IfOk result (IsAskedAt (here_at rounds.old env) rounds.new.context.trees (open_impl rounds.old.context.trees of.now) number) }
     ensures cause { IfErr result (IsOverlapStop rounds.old rounds.new) }
@@ -318,7 +317,7 @@ fn add_open_clauses(
 ) -> Result<(), Stop>
     requires env { IsParamEnv rounds.old.context.trees env }
     requires open { IsOpen rounds.old.context.trees of.now }
-    ensures stays { StaysBesideTable rounds.old rounds.new }
+    ensures stays { StaysBesideSteps rounds.old rounds.new }
     ensures table { table_of rounds.new ≡ table_of rounds.old }
     ensures adds { let r = rounds.old in OnOk result (ListsAll (here_at r env) rounds.new.context.trees (open_impl r.context.trees of.now) list.old.items list.new.items) }
     ensures cause { IfErr result (IsOverlapStop rounds.old rounds.new) }
@@ -343,7 +342,7 @@ fn open_where_equal(
     requires empty { env_forest rounds.old.context.trees env ≡ none }
     requires pending { (state rounds.old).pending ≡ [] }
     requires pair { AreOpen rounds.old.context.trees pair.now }
-    ensures stays { StaysBesideTable rounds.old rounds.new }
+    ensures stays { StaysBesideSteps rounds.old rounds.new }
     ensures lists { IfOk result (λ v. ListsWhereEqual rounds.old rounds.new (state rounds.old) pair.now v.items) }
     ensures cause { IfErr result (IsOverlapStop rounds.old rounds.new) }
 {
@@ -410,7 +409,7 @@ fn open_aside(
     effort: Effort,
 ) -> Result<Vec<OpenClause>, Stop>
     requires some { IsEffort effort }
-    ensures stays { StaysBesideTable rounds.old rounds.new }
+    ensures stays { StaysBesideSteps rounds.old rounds.new }
     ensures lists { IfOk result (λ v. HasOpenClausesAt rounds.old rounds.new (aside (state rounds.old)) first second v.items) }
     ensures cause { IfErr result (IsOverlapStop rounds.old rounds.new) }
 {
@@ -445,7 +444,7 @@ pub fn open_clauses(
     effort: Effort,
 ) -> Result<Vec<OpenClause>, Stop>
     requires some { IsEffort effort }
-    ensures stays { StaysBesideTable rounds.old rounds.new }
+    ensures stays { StaysBesideSteps rounds.old rounds.new }
     ensures lists { IfOk result (λ v. HasOpenClauses rounds.old rounds.new first second v.items) }
     ensures sorts { IfOk result (λ v. All (λ x. IsClause rounds.new.context.trees x.clause) v.items) }
     ensures cause { IfErr result (IsOverlapStop rounds.old rounds.new) }

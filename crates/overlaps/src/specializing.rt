@@ -9,9 +9,8 @@ ghost use Rattle.ir_trees.specs.Syntax.Words.{ClauseListFits, IsArgs, IsClause, 
 ghost use Rattle.ir_trees.specs.Unification.Substitutions.{alone};
 ghost use Rattle.candidate_eval.specs.Interface.Shown.{Keeps, StopsSomehow};
 ghost use Rattle.candidate_rounds.specs.Evaluators.Known.{Each, state, sure_of};
-ghost use Rattle.candidate_rounds.specs.Table.Running.{StaysBesideTable};
 ghost use Rattle.overlaps.specs.Apart.{IfDeclared};
-ghost use Rattle.overlaps.specs.Refused.{AreOpen, IsOpen, StaysBesideKnown};
+ghost use Rattle.overlaps.specs.Refused.{AreOpen, IsOpen, StaysBesideKnown, StaysBesideSteps};
 ghost use Rattle.overlaps.specs.Specialized.{AreAlike, AreTakenUp, HoldsAsSaid, HoldsAt, IsEnvironmentOf, IsFoundOfLeft, IsFoundOfPair, IsFoundWhereEqual, IsLeft, IsSpecialization, IsSpecializationAt, IsTakenUp, IsTypedBy, clauses_with};
 ghost use Rattle.overlaps.specs.Stopping.{IsOverlapStop};
 ghost use Rattle.overlaps.specs.Together.{IsProjectionType, StandsIn};
@@ -153,7 +152,7 @@ pub(crate) fn run_predicate(
     requires env { IsParamEnv rounds.old.context.trees env }
     requires args { IsArgs rounds.old.context.trees predicate.trait_ref.args }
     requires fit { ArgumentsFit rounds.old.context predicate.trait_ref }
-    ensures stays { StaysBesideTable rounds.old rounds.new }
+    ensures stays { StaysBesideSteps rounds.old rounds.new }
     ensures cause { IfErr result (IsOverlapStop rounds.old rounds.new) }
 {
     if !rounds.stands_here(alloc, env, predicate) {
@@ -177,7 +176,7 @@ fn run_clause(
     requires some { IsEffort effort }
     requires env { IsParamEnv rounds.old.context.trees env }
     requires clause { IsClause rounds.old.context.trees clause }
-    ensures stays { StaysBesideTable rounds.old rounds.new }
+    ensures stays { StaysBesideSteps rounds.old rounds.new }
     ensures cause { IfErr result (IsOverlapStop rounds.old rounds.new) }
 {
     let clause = rounds.resolve_clause_if_possible(clause)?;
@@ -198,7 +197,7 @@ fn run_left(
     requires some { IsEffort effort }
     requires env { IsParamEnv rounds.old.context.trees env }
     requires left { Each (IsLeft rounds.old.context.trees) left.now }
-    ensures stays { StaysBesideTable rounds.old rounds.new }
+    ensures stays { StaysBesideSteps rounds.old rounds.new }
     ensures cause { IfErr result (IsOverlapStop rounds.old rounds.new) }
 {
     for i in 0..left.len() {
@@ -211,7 +210,7 @@ fn run_left(
 fn is_held(alloc: Global, rounds: &mut Rounds, env: ParamEnv, clause: Clause) -> Result<bool, Stop>
     requires env { IsParamEnv rounds.old.context.trees env }
     requires clause { IsClause rounds.old.context.trees clause }
-    ensures stays { StaysBesideTable rounds.old rounds.new }
+    ensures stays { StaysBesideSteps rounds.old rounds.new }
     ensures sure { sure_of rounds.new ≡ sure_of rounds.old }
     ensures holds { let r = rounds.old in let ts = r.context.trees in IfOk result (λ b. b ≡ true → HoldsAt r (env_forest ts env) (clause_tree ts clause)) }
     ensures cause { IfErr result (IsOverlapStop rounds.old rounds.new) }
@@ -235,7 +234,7 @@ fn first_not_held(
 ) -> Result<Option<usize>, Stop>
     requires env { IsParamEnv rounds.old.context.trees env }
     requires left { Each (IsLeft rounds.old.context.trees) left.now }
-    ensures stays { StaysBesideTable rounds.old rounds.new }
+    ensures stays { StaysBesideSteps rounds.old rounds.new }
     ensures sure { sure_of rounds.new ≡ sure_of rounds.old }
     ensures hold { let r = rounds.old in let ts = r.context.trees in IfOk result (λ o. o ≡ None → Each (λ l. HoldsAt r (env_forest ts env) (clause_tree ts l.1)) left.now) }
     ensures cause { IfErr result (IsOverlapStop rounds.old rounds.new) }
@@ -418,7 +417,7 @@ fn what_is_left_holds(
     requires some { IsEffort effort }
     requires env { IsParamEnv rounds.old.context.trees env }
     requires left { Each (IsLeft rounds.old.context.trees) left.now }
-    ensures stays { StaysBesideTable rounds.old rounds.new }
+    ensures stays { StaysBesideSteps rounds.old rounds.new }
     ensures is { let r = rounds.old in IfOk result (IsFoundOfLeft r (env_forest r.context.trees env) (sure_of rounds.new) left.now) }
     ensures cause { IfErr result (IsOverlapStop rounds.old rounds.new) }
 {
@@ -533,7 +532,7 @@ pub fn specializes(
     effort: Effort,
 ) -> Result<Specialization, Stop>
     requires some { IsEffort effort }
-    ensures stays { StaysBesideTable rounds.old rounds.new }
+    ensures stays { StaysBesideSteps rounds.old rounds.new }
     ensures is { IfOk result (IsSpecialization rounds.old rounds.new special general) }
     ensures cause { IfErr result (IsOverlapStop rounds.old rounds.new) }
 {

@@ -17,12 +17,11 @@ ghost use Rattle.candidate_assembly.specs.Goals.KindShown.{IsGoal, trait_kind};
 ghost use Rattle.candidate_assembly.specs.Goals.TraitGoals.{trait_goal};
 ghost use Rattle.candidate_rounds.specs.Evaluators.Known.{Each, listing, state, sure_of, table_of};
 ghost use Rattle.candidate_rounds.specs.Table.Normalizing.{IsProjection, rounds_shown};
-ghost use Rattle.candidate_rounds.specs.Table.Running.{StaysBesideTable};
 ghost use Rattle.rounds_judge.specs.Equations.Opening.{are_open};
 ghost use Rattle.rounds_judge.specs.Table.GoalTable.{may_be_asked};
 ghost use Rattle.rounds_judge.specs.Table.Keys.{key_at};
 ghost use Rattle.overlaps.specs.Apart.{OfDeclared, aside};
-ghost use Rattle.overlaps.specs.Refused.{AreOpen, IsOpen, RefusesInstances, StaysBesideKnown};
+ghost use Rattle.overlaps.specs.Refused.{AreOpen, IsOpen, RefusesInstances, StaysBesideKnown, StaysBesideSteps};
 ghost use Rattle.overlaps.specs.Stopping.{IsOverlapStop};
 ghost use Rattle.overlaps.specs.Together.{AreLeftOfAll, CameOf, CannotBothHold, CannotHold, ClausesKeepApart, HasYes, ImplsCannotHold, IsGivenAs, IsObligation, IsProjectedAs, IsProjectionType, IsTried, SaysOfProjection, StandsIn, goals_of_opened, pendings_at};
 ghost use Rattle.candidate_rounds.specs.Table.Efforts.{IsEffort};
@@ -200,7 +199,7 @@ fn verdict_here(
 ) -> Result<Option<Verdict>, Stop>
     requires env { IsParamEnv rounds.old.context.trees env }
     requires args { IsArgs rounds.old.context.trees predicate.trait_ref.args }
-    ensures stays { StaysBesideTable rounds.old rounds.new }
+    ensures stays { StaysBesideSteps rounds.old rounds.new }
     ensures table { table_of rounds.new ≡ table_of rounds.old }
     ensures cause { IfErr result (IsOverlapStop rounds.old rounds.new) }
 {
@@ -229,7 +228,7 @@ fn is_proved(
     requires some { IsEffort effort }
     requires goal { IsGoal trait_kind rounds.old.context env predicate }
     requires asked { may_be_asked (key_at (state rounds.old) (trait_goal rounds.old.context.trees env predicate)) ≡ true }
-    ensures stays { StaysBesideTable rounds.old rounds.new }
+    ensures stays { StaysBesideSteps rounds.old rounds.new }
     ensures yes { let k = key_at (state rounds.old) (trait_goal rounds.old.context.trees env predicate) in IfOk result (λ b. b ≡ true → HasYes (sure_of rounds.new) k) }
     ensures cause { IfErr result (IsOverlapStop rounds.old rounds.new) }
 {
@@ -255,7 +254,7 @@ fn normal(
     requires env { IsParamEnv rounds.old.context.trees env }
     requires alias { KindFits rounds.old.context.trees (K.Alias alias) }
     requires projection { alias.kind ≡ AK.Projection }
-    ensures stays { StaysBesideTable rounds.old rounds.new }
+    ensures stays { StaysBesideSteps rounds.old rounds.new }
     ensures sort { IfOk result (λ o. IfSome o (IsResponse rounds.new.context.trees)) }
     ensures projection { IfOk result (λ o. IfSome o (λ _. IsProjection rounds.new.context env alias)) }
     ensures comes { IfOk result (λ o. IfSome o (CameOf rounds.old rounds.new env alias)) }
@@ -425,7 +424,7 @@ fn is_refused_here(
     requires args { IsArgs rounds.old.context.trees predicate.trait_ref.args }
     requires fit { ArgumentsFit rounds.old.context predicate.trait_ref }
     requires pending { (state rounds.old).pending ≡ [] }
-    ensures stays { StaysBesideTable rounds.old rounds.new }
+    ensures stays { StaysBesideSteps rounds.old rounds.new }
     ensures refused { IfOk result (λ b. b ≡ true → RefusesInstances rounds.old rounds.new predicate) }
     ensures cause { IfErr result (IsOverlapStop rounds.old rounds.new) }
 {
@@ -695,7 +694,7 @@ fn apart_aside(
     effort: Effort,
 ) -> Result<bool, Stop>
     requires some { IsEffort effort }
-    ensures stays { StaysBesideTable rounds.old rounds.new }
+    ensures stays { StaysBesideSteps rounds.old rounds.new }
     ensures apart { let r = rounds.old in IfOk result (λ b. b ≡ true → OfDeclared r.context first second (ImplsCannotHold r (aside (state r)))) }
     ensures cause { IfErr result (IsOverlapStop rounds.old rounds.new) }
 {
@@ -724,7 +723,7 @@ pub fn kept_apart_by_clauses(
     effort: Effort,
 ) -> Result<bool, Stop>
     requires some { IsEffort effort }
-    ensures stays { StaysBesideTable rounds.old rounds.new }
+    ensures stays { StaysBesideSteps rounds.old rounds.new }
     ensures apart { IfOk result (λ b. b ≡ true → ClausesKeepApart rounds.old first second) }
     ensures open { let r = rounds.old in IfOk result (λ b. b ≡ true → are_open (listing r) (state r) ≡ true) }
     ensures cause { IfErr result (IsOverlapStop rounds.old rounds.new) }

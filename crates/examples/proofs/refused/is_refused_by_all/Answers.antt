@@ -1,6 +1,6 @@
-use Rattle.std.proofs.Common.{◌≡◌, true, Bool, Result, IfOk, refl, sym, subst}
+use Rattle.std.proofs.Common.{◌≡◌, true, Bool, Result, IfOk, refl, sym, subst, ◌∙◌}
 use Rattle.ir_trees.specs.declared.ir.stop.Stop.{Stop}
-use Rattle.ir_trees.proofs.Growth.Kept.{args-kept}
+use Rattle.ir_trees.proofs.Growth.Kept.{args-kept, grows-trans}
 use Rattle.candidate_eval.specs.Derivations.ImplRules.{TraitGoal}
 use Rattle.candidate_eval.specs.Judges.States.{State}
 use Rattle.candidate_assembly.specs.Answers.CoherentRefusals.{IsPlainGoal}
@@ -52,7 +52,9 @@ returns c = λ e.
     let p = c.args.predicate in
     let begun = stays-made c.mk_param_env.ensures.made.kept c.mk_param_env.ensures.rest in
     let args = (args-kept old.context one.context p.trait_ref.args begun.grows c.requires.sort).0 in
-    let stays = stays-trans c.may_decide.ensures.stays (stays-trans c.may_be_run.ensures.stays c.run.ensures.stays) in
+    let ran = stays-trans c.may_be_run.ensures.stays c.run.ensures.stays in
+    let grows = grows-trans one.context c.may_decide.new.rounds.context mid.context c.may_decide.ensures.stays.grows ran.grows in
+    let same = ran.state_same ∙ c.may_decide.ensures.stays.state_same in
     let here = subst (λ (x : Result Bool Stop). IfOk x (λ b. b ≡ true → WasRefused (judge_of (fixed mid)) mid.context (state mid) (trait_goal mid.context.trees env p))) e c.is_refused.ensures.refused in
     refused-before old one c.is_refused.new.ecx p begun c.requires.sort
-    (predicate-refused one mid c.is_refused.new.ecx env p stays c.is_refused.ensures.kept.fixed_same c.in_ok-env.ensures.made.sort args c.in_ok-env.ensures.made.tree (here refl))
+    (predicate-refused one mid c.is_refused.new.ecx env p grows same c.is_refused.ensures.kept.fixed_same c.in_ok-env.ensures.made.sort args c.in_ok-env.ensures.made.tree (here refl))

@@ -1,7 +1,6 @@
 use Rattle.std.proofs.Common.{◌∙◌, inl, inr, rules, subst}
 use Rattle.std.proofs.lemmas.Result.{IfOk-weaker}
 use Rattle.candidate_eval.proofs.Dynamic.Objects.{env-kept}
-use Rattle.candidate_rounds.proofs.Table.Running.{stays-trans}
 use Rattle.overlaps.proofs.PureFolder.{impl-earlier}
 use Rattle.candidate_eval.specs.Judges.States.{State}
 use Rattle.candidate_rounds.specs.Evaluators.Known.{state, sure_of}
@@ -10,8 +9,9 @@ use Rattle.rounds_judge.specs.Table.GoalTable.{GoalTable}
 use Rattle.overlaps.specs.Uncertain.{ImplHoldsNot}
 use Rattle.overlaps.proofs.Uncertainty.{impl-not-earlier}
 use Rattle.overlaps.proofs.Pairs.{pair-later}
-use Rattle.overlaps.proofs.Stopping.{later-table, passed-on, stop-later}
+use Rattle.overlaps.proofs.Stopping.{later-steps, passed-on, stop-later}
 use Rattle.overlaps.specs.Stopping.{IsOverlapStop}
+use Rattle.overlaps.proofs.Staying.{stays-trans}
 use Rattle.candidate_assembly.proofs.Calls.Causes.{so-err}
 use Rattle.overlaps.proofs.answered.are_answered.Goals as goal
 
@@ -44,7 +44,7 @@ pub returns-in_err-is_impl_answered-clause-cause : goal.returns-in_err-is_impl_a
 returns-in_err-is_impl_answered-clause-cause c = passed-on (IsOverlapStop c.args.rounds.now c.is_impl_answered.new.rounds) c.from_residual.result c.in_err-is_impl_answered.field-0.0 c.from_residual.ensures.1 (c.in_err-is_impl_answered.ensures.cause)
 
 pub returns-clause-cause : goal.returns-clause-cause
-returns-clause-cause c = so-err c.is_impl_answered-2.result (λ s k. stop-later (later-table c.is_impl_answered.ensures.stays) k) c.is_impl_answered-2.ensures.cause
+returns-clause-cause c = so-err c.is_impl_answered-2.result (λ s k. stop-later (later-steps c.is_impl_answered.ensures.stays) k) c.is_impl_answered-2.ensures.cause
 
 pub returns-then-not-branch-clause-uncertain : goal.returns-then-not-branch-clause-uncertain
 returns-then-not-branch-clause-uncertain c = λ no. inl (c.in_ok-is_impl_answered.ensures.uncertain c.if-not-branch.true)

@@ -6,7 +6,7 @@ use Rattle.candidate_eval.proofs.Outcomes.Pairs.{clause_there}
 use Rattle.overlaps.proofs.PureFolder.{all-answered, asked-then, none-answered, one-answered}
 use Rattle.overlaps.proofs.Refusing.{got-there}
 use Rattle.overlaps.proofs.Uncertainty.{one-not}
-use Rattle.overlaps.proofs.Stopping.{later-table, passed-on, stop-later}
+use Rattle.overlaps.proofs.Stopping.{later-steps, passed-on, stop-later}
 use Rattle.overlaps.specs.Stopping.{IsOverlapStop}
 use Rattle.overlaps.proofs.answered.first_unanswered.Goals as goal
 
@@ -63,7 +63,7 @@ returns-clause-hold c = λ e.
     all-answered c.args.rounds.now c.loop-number.rounds c.args.env c.args.locals c.args.clauses.now c.loop-number.number c.loop-number.invariant (omega (arith, c.loop-number-test.false))
 
 pub returns-in_err-is_clause_answered-clause-cause : goal.returns-in_err-is_clause_answered-clause-cause
-returns-in_err-is_clause_answered-clause-cause c = passed-on (IsOverlapStop c.args.rounds.now c.is_clause_answered.new.rounds) c.from_residual.result c.in_err-is_clause_answered.field-0.0 c.from_residual.ensures.1 (stop-later (later-table c.loop-number.invariant.asked.stays) c.in_err-is_clause_answered.ensures.cause)
+returns-in_err-is_clause_answered-clause-cause c = passed-on (IsOverlapStop c.args.rounds.now c.is_clause_answered.new.rounds) c.from_residual.result c.in_err-is_clause_answered.field-0.0 c.from_residual.ensures.1 (stop-later (later-steps c.loop-number.invariant.asked.stays) c.in_err-is_clause_answered.ensures.cause)
 
 pub returns-then-not-branch-clause-uncertain : goal.returns-then-not-branch-clause-uncertain
 returns-then-not-branch-clause-uncertain c =

@@ -4,7 +4,6 @@ use Rattle.ir_trees.specs.Declarations.Context.{Context}
 use Rattle.ir_trees.proofs.Growth.Kept.{grows-trans}
 use Rattle.candidate_assembly.proofs.Calls.Keeping.{trait-goal-kept}
 use Rattle.candidate_rounds.specs.Table.Goals.{verdict_seen}
-use Rattle.candidate_rounds.proofs.Table.Running.{stays-refl, stays-trans}
 use Rattle.overlaps.specs.Answered.{IsPlainYes}
 use Rattle.overlaps.specs.PartTraits.{MayRestOnPart}
 use Rattle.overlaps.specs.Uncertain.{by_part, no_goal, no_plain_yes}
@@ -14,8 +13,9 @@ use Rattle.rounds_judge.specs.Table.GoalTable.{verdict_in}
 use Rattle.rounds_judge.specs.Table.Keys.{key_at}
 use Rattle.overlaps.proofs.Uncertainty.{noted-not, of-not, plain-there, sure-there}
 use Rattle.candidate_eval.proofs.Interface.Accounts.{memory-somehow}
-use Rattle.overlaps.proofs.Stopping.{asking-stop, later-refl, later-table, passed-on, step-stop}
+use Rattle.overlaps.proofs.Stopping.{asking-stop, later-refl, later-steps, passed-on, step-stop}
 use Rattle.overlaps.specs.Stopping.{IsOverlapStop, step_key}
+use Rattle.overlaps.proofs.Staying.{stays-refl, stays-same, stays-trans}
 use Rattle.candidate_assembly.specs.Goals.TraitGoals.{trait_goal}
 use Rattle.overlaps.proofs.answered.is_predicate_answered.Goals as goal
 
@@ -28,7 +28,7 @@ returns-clause-answered c = λ stable.
     let mid = c.entry.new.self in
     let k = key_at (state r) (trait_goal r.context.trees c.args.env c.args.predicate) in
     let yes = subst IsPlainYes c.in_ok-verdict.ensures.is (subst (λ (x : Context). IsPlainYes (option_map (verdict_seen x.trees) c.in_ok-verdict.verdict)) c.cx.ensures (c.is_plain_yes.ensures.yes c.if-not-is_plain_yes.false)) in
-    let same = sure-there r mid c.args.env c.args.predicate c.in_ok-leaks.leaks c.entry.ensures.stays c.entry.ensures.table c.entry.ensures.sure c.requires.env c.requires.args c.in_ok-leaks.ensures.is in
+    let same = sure-there r mid c.args.env c.args.predicate c.in_ok-leaks.leaks (stays-same c.entry.ensures.stays c.entry.ensures.table) c.entry.ensures.table c.entry.ensures.sure c.requires.env c.requires.args c.in_ok-leaks.ensures.is in
     plain-there (verdict_in (sure_of r) k) (verdict_in (table_of r) k) c.in_ok-leaks.leaks c.if-leaks.false same yes
 
 pub returns-in_err-verdict-clause-cause : goal.returns-in_err-verdict-clause-cause
@@ -57,7 +57,7 @@ pub returns-then-leaks-clause-unanswered : goal.returns-then-leaks-clause-unansw
 returns-then-leaks-clause-unanswered c = λ no.
     let r = c.args.rounds.now in
     let k = key_at (state r) (trait_goal r.context.trees c.args.env c.args.predicate) in
-    let same = sure-there r c.entry.new.self c.args.env c.args.predicate c.in_ok-leaks.leaks c.entry.ensures.stays c.entry.ensures.table c.entry.ensures.sure c.requires.env c.requires.args c.in_ok-leaks.ensures.is in
+    let same = sure-there r c.entry.new.self c.args.env c.args.predicate c.in_ok-leaks.leaks (stays-same c.entry.ensures.stays c.entry.ensures.table) c.entry.ensures.table c.entry.ensures.sure c.requires.env c.requires.args c.in_ok-leaks.ensures.is in
     no_plain_yes (λ yes. noted-not (verdict_in (sure_of r) k) (verdict_in (table_of r) k) c.in_ok-leaks.leaks c.if-leaks.true same yes)
 
 pub returns-clause-unanswered : goal.returns-clause-unanswered
@@ -69,7 +69,7 @@ pub entry_leaks-requires : goal.entry_leaks-requires
 entry_leaks-requires c = (trait-goal-kept _ _ _ _ c.entry.ensures.stays.grows (c.stands_here.ensures.goal c.if-not-stands_here.false)).0
 
 pub returns-in_err-leaks-clause-stays : goal.returns-in_err-leaks-clause-stays
-returns-in_err-leaks-clause-stays c = stays-trans c.entry.ensures.stays c.entry_leaks.ensures.stays
+returns-in_err-leaks-clause-stays c = stays-trans (stays-same c.entry.ensures.stays c.entry.ensures.table) (stays-same c.entry_leaks.ensures.stays c.entry_leaks.ensures.table)
 
 pub returns-in_err-leaks-clause-table : goal.returns-in_err-leaks-clause-table
 returns-in_err-leaks-clause-table c = c.entry_leaks.ensures.table ∙ c.entry.ensures.table
@@ -77,22 +77,22 @@ returns-in_err-leaks-clause-table c = c.entry_leaks.ensures.table ∙ c.entry.en
 pub returns-in_err-leaks-clause-cause : goal.returns-in_err-leaks-clause-cause
 returns-in_err-leaks-clause-cause c =
     passed-on (IsOverlapStop c.args.rounds.now c.entry_leaks.new.self) c.from_residual-in_err-leaks.result c.in_err-leaks.field-0.0 c.from_residual-in_err-leaks.ensures.1
-    (step-stop (later-table c.entry.ensures.stays) (step_key (trait_goal c.entry.new.self.context.trees c.args.env c.args.predicate) c.in_err-leaks.ensures.cause))
+    (step-stop (later-steps (stays-same c.entry.ensures.stays c.entry.ensures.table)) (step_key (trait_goal c.entry.new.self.context.trees c.args.env c.args.predicate) c.in_err-leaks.ensures.cause))
 
 pub returns-then-leaks-clause-stays : goal.returns-then-leaks-clause-stays
-returns-then-leaks-clause-stays c = stays-trans c.entry.ensures.stays c.entry_leaks.ensures.stays
+returns-then-leaks-clause-stays c = stays-trans (stays-same c.entry.ensures.stays c.entry.ensures.table) (stays-same c.entry_leaks.ensures.stays c.entry_leaks.ensures.table)
 
 pub returns-then-leaks-clause-table : goal.returns-then-leaks-clause-table
 returns-then-leaks-clause-table c = c.entry_leaks.ensures.table ∙ c.entry.ensures.table
 
 pub returns-in_err-may_rest_on_part-clause-stays : goal.returns-in_err-may_rest_on_part-clause-stays
-returns-in_err-may_rest_on_part-clause-stays c = stays-trans c.entry.ensures.stays c.entry_leaks.ensures.stays
+returns-in_err-may_rest_on_part-clause-stays c = stays-trans (stays-same c.entry.ensures.stays c.entry.ensures.table) (stays-same c.entry_leaks.ensures.stays c.entry_leaks.ensures.table)
 
 pub returns-in_err-may_rest_on_part-clause-table : goal.returns-in_err-may_rest_on_part-clause-table
 returns-in_err-may_rest_on_part-clause-table c = c.entry_leaks.ensures.table ∙ c.entry.ensures.table
 
 pub returns-clause-stays : goal.returns-clause-stays
-returns-clause-stays c = stays-trans c.entry.ensures.stays c.entry_leaks.ensures.stays
+returns-clause-stays c = stays-trans (stays-same c.entry.ensures.stays c.entry.ensures.table) (stays-same c.entry_leaks.ensures.stays c.entry_leaks.ensures.table)
 
 pub returns-clause-table : goal.returns-clause-table
 returns-clause-table c = c.entry_leaks.ensures.table ∙ c.entry.ensures.table
@@ -108,3 +108,9 @@ returns-in_err-may_rest_on_part-clause-sure c = c.entry_leaks.ensures.sure ∙ c
 
 pub returns-clause-sure : goal.returns-clause-sure
 returns-clause-sure c = c.entry_leaks.ensures.sure ∙ c.entry.ensures.sure
+
+pub returns-in_err-verdict-clause-stays : goal.returns-in_err-verdict-clause-stays
+returns-in_err-verdict-clause-stays c = stays-same c.entry.ensures.stays c.entry.ensures.table
+
+pub returns-then-not-is_plain_yes-clause-stays : goal.returns-then-not-is_plain_yes-clause-stays
+returns-then-not-is_plain_yes-clause-stays c = stays-same c.entry.ensures.stays c.entry.ensures.table

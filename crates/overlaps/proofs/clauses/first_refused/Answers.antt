@@ -4,13 +4,13 @@ use Rattle.ir_trees.proofs.Growth.Kept.{args-kept}
 use Rattle.ir_folds.proofs.Instantiation.Joining.{clause-kept}
 use Rattle.candidate_eval.proofs.Dynamic.Objects.{env-kept}
 use Rattle.candidate_eval.proofs.Outcomes.Pairs.{clause_there}
-use Rattle.candidate_rounds.proofs.Table.Running.{stays-refl, stays-trans}
 use Rattle.candidate_rounds.specs.Evaluators.Known.{state, table_of}
 use Rattle.overlaps.specs.Asked.{SoManyStay, none_asked}
 use Rattle.overlaps.proofs.AskedClauses.{one-more}
 use Rattle.overlaps.proofs.Refusing.{got-there, one-refused}
-use Rattle.overlaps.proofs.Stopping.{later-table, passed-on, stop-later}
+use Rattle.overlaps.proofs.Stopping.{later-steps, passed-on, stop-later}
 use Rattle.overlaps.specs.Stopping.{IsOverlapStop}
+use Rattle.overlaps.proofs.Staying.{stays-refl, stays-trans}
 use Rattle.overlaps.proofs.clauses.first_refused.Goals as goal
 
 pub loop-number-init : goal.loop-number-init
@@ -70,7 +70,7 @@ returns-clause-asked c = λ none.
     subst (λ n. SoManyStay r (state r) c.args.effort (args_forest r.context.trees c.args.locals) xs (table_of r) n (table_of c.loop-number.rounds)) all c.loop-number.invariant.1
 
 pub returns-in_err-probe_clause-clause-cause : goal.returns-in_err-probe_clause-clause-cause
-returns-in_err-probe_clause-clause-cause c = passed-on (IsOverlapStop c.args.rounds.now c.probe_clause.new.rounds) c.from_residual.result c.in_err-probe_clause.field-0.0 c.from_residual.ensures.1 (stop-later (later-table c.loop-number.invariant.0) c.in_err-probe_clause.ensures.cause)
+returns-in_err-probe_clause-clause-cause c = passed-on (IsOverlapStop c.args.rounds.now c.probe_clause.new.rounds) c.from_residual.result c.in_err-probe_clause.field-0.0 c.from_residual.ensures.1 (stop-later (later-steps c.loop-number.invariant.0) c.in_err-probe_clause.ensures.cause)
 
 pub returns-then-branch-clause-before : goal.returns-then-branch-clause-before
 returns-then-branch-clause-before c = (table_of c.loop-number.rounds, c.loop-number.invariant.1)

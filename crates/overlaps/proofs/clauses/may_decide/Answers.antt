@@ -1,10 +1,9 @@
 use Rattle.ir_trees.proofs.Growth.Kept.{args-kept}
 use Rattle.candidate_eval.proofs.Dynamic.Objects.{env-kept}
 use Rattle.candidate_rounds.specs.Evaluators.Known.{state}
-use Rattle.candidate_rounds.proofs.Table.Running.{stays-refl}
 use Rattle.overlaps.proofs.AskedClauses.{stands-not}
 use Rattle.overlaps.proofs.PlainGoals.{plain-goal}
-use Rattle.overlaps.proofs.Staying.{stays-kept}
+use Rattle.overlaps.proofs.Staying.{stays-kept, stays-refl}
 use Rattle.overlaps.proofs.Stopping.{asking-stop, later-refl, passed-on}
 use Rattle.overlaps.specs.Stopping.{IsOverlapStop}
 use Rattle.overlaps.proofs.clauses.may_decide.Goals as goal

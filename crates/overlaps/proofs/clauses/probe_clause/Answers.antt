@@ -3,15 +3,13 @@ use Rattle.std.proofs.lemmas.Result.{IfOk-weaker}
 use Rattle.ir_trees.specs.Declarations.Context.{Context}
 use Rattle.ir_trees.specs.Instantiation.Folding.{substituted_tree}
 use Rattle.ir_trees.specs.Syntax.Words.{args_forest, clause_tree}
-use Rattle.candidate_rounds.specs.Table.Running.{StaysBesideTable}
-use Rattle.candidate_rounds.proofs.Table.Running.{stays-refl}
 use Rattle.candidate_eval.specs.Judges.States.{resolved_tree}
 use Rattle.candidate_rounds.specs.Evaluators.Known.{state, table_of}
 use Rattle.overlaps.specs.Asked.{ClauseStays}
-use Rattle.overlaps.specs.Refused.{RefusesHere, clause_at}
+use Rattle.overlaps.specs.Refused.{RefusesHere, StaysBesideSteps, clause_at}
 use Rattle.overlaps.proofs.AskedClauses.{clause-probed}
 use Rattle.overlaps.proofs.Refusing.{here-probed}
-use Rattle.overlaps.proofs.Staying.{probe-stays}
+use Rattle.overlaps.proofs.Staying.{probe-stays, stays-refl}
 use Rattle.overlaps.proofs.Stopping.{asking-stop, later-begun, later-refl, passed-on, stop-later, stop-left}
 use Rattle.overlaps.specs.Stopping.{IsOverlapStop}
 use Rattle.candidate_assembly.proofs.Calls.Causes.{so-err}
@@ -19,7 +17,7 @@ use Rattle.candidate_eval.proofs.Interface.Accounts.{memory-somehow}
 use Rattle.overlaps.proofs.clauses.probe_clause.Goals as goal
 
 pub returns-in_err-probe-clause-stays : goal.returns-in_err-probe-clause-stays
-returns-in_err-probe-clause-stays c = subst (StaysBesideTable c.args.rounds.now) (sym c.in_err-probe.ensures.unchanged) (stays-refl c.args.rounds.now)
+returns-in_err-probe-clause-stays c = subst (StaysBesideSteps c.args.rounds.now) (sym c.in_err-probe.ensures.unchanged) (stays-refl c.args.rounds.now)
 
 pub returns-clause-stays : goal.returns-clause-stays
 returns-clause-stays c =

@@ -1,19 +1,19 @@
 use Rattle.std.proofs.Common.{◌≡◌, true, false, refl, sym, ◌∙◌}
 use Rattle.candidate_assembly.specs.Goals.TraitGoals.{trait_goal}
-use Rattle.candidate_rounds.proofs.Table.Running.{stays-refl, stays-trans}
 use Rattle.overlaps.specs.Stopping.{IsOverlapStop, step_key, step_run}
 use Rattle.overlaps.proofs.AskedClauses.{predicate-not-tried, predicate-tried}
-use Rattle.overlaps.proofs.Stopping.{later-refl, later-table, passed-on, step-stop}
+use Rattle.overlaps.proofs.Staying.{stays-refl, stays-run, stays-same, stays-trans}
+use Rattle.overlaps.proofs.Stopping.{later-refl, later-steps, passed-on, step-stop}
 use Rattle.overlaps.proofs.clauses.run_where_it_stands.Goals as goal
 
 pub returns-then-not-stands_here-clause-stays : goal.returns-then-not-stands_here-clause-stays
 returns-then-not-stands_here-clause-stays c = stays-refl c.args.rounds.now
 
 pub returns-in_err-_verdict-clause-stays : goal.returns-in_err-_verdict-clause-stays
-returns-in_err-_verdict-clause-stays c = stays-trans c.may_be_run.ensures.stays c.run_by.ensures.stays
+returns-in_err-_verdict-clause-stays c = stays-trans (stays-same c.may_be_run.ensures.stays c.may_be_run.ensures.table) (stays-run _ _ c.args.effort c.run_by.result c.run_by.ensures.stays c.run_by.ensures.ran c.run_by.ensures.stopped)
 
 pub returns-clause-stays : goal.returns-clause-stays
-returns-clause-stays c = stays-trans c.may_be_run.ensures.stays c.run_by.ensures.stays
+returns-clause-stays c = stays-trans (stays-same c.may_be_run.ensures.stays c.may_be_run.ensures.table) (stays-run _ _ c.args.effort c.run_by.result c.run_by.ensures.stays c.run_by.ensures.ran c.run_by.ensures.stopped)
 
 pub returns-then-not-stands_here-clause-tried : goal.returns-then-not-stands_here-clause-tried
 returns-then-not-stands_here-clause-tried c =
@@ -29,11 +29,17 @@ returns-then-not-branch-clause-tried c =
 
 pub returns-clause-tried : goal.returns-clause-tried
 returns-clause-tried c =
-    predicate-tried c.args.rounds.now c.may_be_run.new.self c.run_by.new.self c.args.env c.args.predicate c.args.effort c.may_be_run.ensures.stays c.may_be_run.ensures.table c.requires.env c.requires.args c.requires.empty
+    predicate-tried c.args.rounds.now c.may_be_run.new.self c.run_by.new.self c.args.env c.args.predicate c.args.effort (stays-same c.may_be_run.ensures.stays c.may_be_run.ensures.table) c.may_be_run.ensures.table c.requires.env c.requires.args c.requires.empty
     c.in_ok-_verdict.ensures.ran
 
 pub returns-in_err-may_be_run-clause-cause : goal.returns-in_err-may_be_run-clause-cause
 returns-in_err-may_be_run-clause-cause c = passed-on (IsOverlapStop c.args.rounds.now c.may_be_run.new.self) c.from_residual.result c.in_err-may_be_run.field-0.0 c.from_residual.ensures.1 (step-stop (later-refl c.args.rounds.now) (step_key (trait_goal c.args.rounds.now.context.trees c.args.env c.args.predicate) c.in_err-may_be_run.ensures.cause))
 
 pub returns-in_err-_verdict-clause-cause : goal.returns-in_err-_verdict-clause-cause
-returns-in_err-_verdict-clause-cause c = passed-on (IsOverlapStop c.args.rounds.now c.run_by.new.self) c.from_residual-in_err-_verdict.result c.in_err-_verdict.field-0.0 c.from_residual-in_err-_verdict.ensures.1 (step-stop (later-table c.may_be_run.ensures.stays) (step_run (trait_goal c.may_be_run.new.self.context.trees c.args.env c.args.predicate) c.in_err-_verdict.ensures.cause))
+returns-in_err-_verdict-clause-cause c = passed-on (IsOverlapStop c.args.rounds.now c.run_by.new.self) c.from_residual-in_err-_verdict.result c.in_err-_verdict.field-0.0 c.from_residual-in_err-_verdict.ensures.1 (step-stop (later-steps (stays-same c.may_be_run.ensures.stays c.may_be_run.ensures.table)) (step_run (trait_goal c.may_be_run.new.self.context.trees c.args.env c.args.predicate) c.in_err-_verdict.ensures.cause))
+
+pub returns-in_err-may_be_run-clause-stays : goal.returns-in_err-may_be_run-clause-stays
+returns-in_err-may_be_run-clause-stays c = stays-same c.may_be_run.ensures.stays c.may_be_run.ensures.table
+
+pub returns-then-not-branch-clause-stays : goal.returns-then-not-branch-clause-stays
+returns-then-not-branch-clause-stays c = stays-same c.may_be_run.ensures.stays c.may_be_run.ensures.table

@@ -4,6 +4,7 @@ use Rattle.rounds_judge.specs.Obligations.Responding.{renumbered, with_numbers}
 use Rattle.overlaps.proofs.PureFolder.{asked-kept, asked-then, sure-kept, sure-then}
 use Rattle.overlaps.proofs.Stopping.{asking-stop, later-kept, later-refl, passed-on, step-stop}
 use Rattle.overlaps.specs.Stopping.{IsOverlapStop, step_numbering}
+use Rattle.overlaps.proofs.Staying.{stays-same}
 use Rattle.candidate_assembly.proofs.Calls.Causes.{asked-somehow}
 use Rattle.candidate_eval.specs.Interface.Accounts.{resolve}
 use Rattle.ir_trees.specs.Syntax.Words.{args_forest}
@@ -16,16 +17,16 @@ pub returns-in_err-args-clause-table : goal.returns-in_err-args-clause-table
 returns-in_err-args-clause-table c = (asked-kept c.resolve_args_if_possible.ensures.kept c.resolve_args_if_possible.ensures.same).table
 
 pub returns-in_err-args-2-clause-stays : goal.returns-in_err-args-2-clause-stays
-returns-in_err-args-2-clause-stays c = (asked-then (asked-kept c.resolve_args_if_possible.ensures.kept c.resolve_args_if_possible.ensures.same) c.canonical_args.ensures.stays c.canonical_args.ensures.table).stays
+returns-in_err-args-2-clause-stays c = (asked-then (asked-kept c.resolve_args_if_possible.ensures.kept c.resolve_args_if_possible.ensures.same) (stays-same c.canonical_args.ensures.stays c.canonical_args.ensures.table) c.canonical_args.ensures.table).stays
 
 pub returns-in_err-args-2-clause-table : goal.returns-in_err-args-2-clause-table
-returns-in_err-args-2-clause-table c = (asked-then (asked-kept c.resolve_args_if_possible.ensures.kept c.resolve_args_if_possible.ensures.same) c.canonical_args.ensures.stays c.canonical_args.ensures.table).table
+returns-in_err-args-2-clause-table c = (asked-then (asked-kept c.resolve_args_if_possible.ensures.kept c.resolve_args_if_possible.ensures.same) (stays-same c.canonical_args.ensures.stays c.canonical_args.ensures.table) c.canonical_args.ensures.table).table
 
 pub returns-clause-stays : goal.returns-clause-stays
-returns-clause-stays c = (asked-then (asked-kept c.resolve_args_if_possible.ensures.kept c.resolve_args_if_possible.ensures.same) c.canonical_args.ensures.stays c.canonical_args.ensures.table).stays
+returns-clause-stays c = (asked-then (asked-kept c.resolve_args_if_possible.ensures.kept c.resolve_args_if_possible.ensures.same) (stays-same c.canonical_args.ensures.stays c.canonical_args.ensures.table) c.canonical_args.ensures.table).stays
 
 pub returns-clause-table : goal.returns-clause-table
-returns-clause-table c = (asked-then (asked-kept c.resolve_args_if_possible.ensures.kept c.resolve_args_if_possible.ensures.same) c.canonical_args.ensures.stays c.canonical_args.ensures.table).table
+returns-clause-table c = (asked-then (asked-kept c.resolve_args_if_possible.ensures.kept c.resolve_args_if_possible.ensures.same) (stays-same c.canonical_args.ensures.stays c.canonical_args.ensures.table) c.canonical_args.ensures.table).table
 
 pub returns-clause-is : goal.returns-clause-is
 returns-clause-is c = record {
@@ -44,7 +45,7 @@ pub returns-in_err-args-clause-sure : goal.returns-in_err-args-clause-sure
 returns-in_err-args-clause-sure c = (sure-kept c.resolve_args_if_possible.ensures.kept c.resolve_args_if_possible.ensures.same).sure
 
 pub returns-in_err-args-2-clause-sure : goal.returns-in_err-args-2-clause-sure
-returns-in_err-args-2-clause-sure c = (sure-then (sure-kept c.resolve_args_if_possible.ensures.kept c.resolve_args_if_possible.ensures.same) c.canonical_args.ensures.stays c.canonical_args.ensures.sure).sure
+returns-in_err-args-2-clause-sure c = (sure-then (sure-kept c.resolve_args_if_possible.ensures.kept c.resolve_args_if_possible.ensures.same) (stays-same c.canonical_args.ensures.stays c.canonical_args.ensures.table) c.canonical_args.ensures.sure).sure
 
 pub returns-clause-sure : goal.returns-clause-sure
-returns-clause-sure c = (sure-then (sure-kept c.resolve_args_if_possible.ensures.kept c.resolve_args_if_possible.ensures.same) c.canonical_args.ensures.stays c.canonical_args.ensures.sure).sure
+returns-clause-sure c = (sure-then (sure-kept c.resolve_args_if_possible.ensures.kept c.resolve_args_if_possible.ensures.same) (stays-same c.canonical_args.ensures.stays c.canonical_args.ensures.table) c.canonical_args.ensures.sure).sure

@@ -2,11 +2,11 @@ use Rattle.std.proofs.Common.{◌≡◌, false, subst, ◌∙◌}
 use Rattle.std.specs.Option.{option_map}
 use Rattle.candidate_assembly.specs.Goals.TraitGoals.{trait_goal}
 use Rattle.candidate_eval.proofs.Interface.Accounts.{memory-somehow}
-use Rattle.candidate_rounds.proofs.Table.Running.{stays-refl}
 use Rattle.overlaps.proofs.Stopping.{asking-stop, later-refl, passed-on, step-stop}
 use Rattle.overlaps.proofs.Uncertainty.{no-then}
 use Rattle.overlaps.specs.Answered.{HoldsForAll}
 use Rattle.overlaps.specs.Stopping.{IsOverlapStop, step_key}
+use Rattle.overlaps.proofs.Staying.{stays-refl, stays-same}
 use Rattle.overlaps.proofs.negation.holds_for_all.Goals as goal
 
 pub returns-then-not-stands_here-clause-stays : goal.returns-then-not-stands_here-clause-stays
@@ -24,3 +24,12 @@ returns-in_err-leaks-clause-cause c =
 
 pub returns-clause-holds : goal.returns-clause-holds
 returns-clause-holds c = λ yes. subst HoldsForAll c.in_ok-verdict.ensures.is (c.in_ok-leaks.ensures.no (no-then c.in_ok-leaks.leaks yes))
+
+pub returns-in_err-verdict-clause-stays : goal.returns-in_err-verdict-clause-stays
+returns-in_err-verdict-clause-stays c = stays-same c.entry.ensures.stays c.entry.ensures.table
+
+pub returns-in_err-leaks-clause-stays : goal.returns-in_err-leaks-clause-stays
+returns-in_err-leaks-clause-stays c = stays-same c.entry.ensures.stays c.entry.ensures.table
+
+pub returns-clause-stays : goal.returns-clause-stays
+returns-clause-stays c = stays-same c.entry.ensures.stays c.entry.ensures.table

@@ -8,15 +8,15 @@ use Rattle.candidate_eval.specs.Judges.States.{State}
 use Rattle.candidate_rounds.specs.Evaluators.Known.{state, sure_of}
 use Rattle.candidate_rounds.specs.Table.Goals.{Via}
 use Rattle.candidate_rounds.proofs.Table.Noted.{sure-keeps}
-use Rattle.candidate_rounds.proofs.Table.Running.{stays-trans}
 use Rattle.rounds_judge.specs.Table.GoalTable.{GoalTable, verdict_in}
 use Rattle.rounds_judge.specs.Table.Keys.{key_at}
 use Rattle.candidate_eval.specs.Derivations.ImplRules.{TraitGoal}
 use Rattle.overlaps.proofs.AskedClauses.{arguments-fit-kept}
-use Rattle.overlaps.proofs.Stopping.{later-table, passed-on, stop-later}
+use Rattle.overlaps.proofs.Stopping.{later-steps, passed-on, stop-later}
 use Rattle.overlaps.proofs.Uncertainty.{goal-later}
 use Rattle.overlaps.specs.Answered.{HoldsForAll, IsPlainYes}
 use Rattle.overlaps.specs.Stopping.{IsOverlapStop}
+use Rattle.overlaps.proofs.Staying.{stays-trans}
 use Rattle.overlaps.proofs.negation.is_answered_for_all.Goals as goal
 
 pub is_predicate_answered-requires-clause-env : goal.is_predicate_answered-requires-clause-env
@@ -57,4 +57,4 @@ returns-clause-for_all c =
     IfOk-weaker c.is_predicate_answered.result _ _ (λ b h yes. all) c.is_predicate_answered.ensures.answered
 
 pub returns-clause-cause : goal.returns-clause-cause
-returns-clause-cause c = so-err c.is_predicate_answered.result (λ s k. stop-later (later-table c.holds_for_all.ensures.stays) k) c.is_predicate_answered.ensures.cause
+returns-clause-cause c = so-err c.is_predicate_answered.result (λ s k. stop-later (later-steps c.holds_for_all.ensures.stays) k) c.is_predicate_answered.ensures.cause

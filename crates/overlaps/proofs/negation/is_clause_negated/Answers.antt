@@ -4,9 +4,8 @@ use Rattle.ir_trees.specs.Syntax.Words.{ClauseListFits}
 use Rattle.candidate_eval.proofs.Dynamic.Objects.{env-kept}
 use Rattle.candidate_assembly.proofs.Calls.Causes.{so-err}
 use Rattle.candidate_rounds.specs.Evaluators.Known.{sure_of}
-use Rattle.candidate_rounds.proofs.Table.Running.{stays-trans}
 use Rattle.overlaps.proofs.Negated.{clause-negated}
-use Rattle.overlaps.proofs.Staying.{stays-kept}
+use Rattle.overlaps.proofs.Staying.{stays-kept, stays-trans}
 use Rattle.overlaps.proofs.Stopping.{asking-stop, later-kept, later-refl, passed-on, stop-later}
 use Rattle.overlaps.specs.Stopping.{IsOverlapStop}
 use Rattle.overlaps.proofs.negation.is_clause_negated.Goals as goal

@@ -9,13 +9,13 @@ use Rattle.candidate_eval.specs.Dynamic.ObjectRequirements.{arguments_of, trait_
 use Rattle.candidate_eval.proofs.Dynamic.Objects.{env-kept}
 use Rattle.candidate_assembly.proofs.Calls.Causes.{so-err}
 use Rattle.candidate_rounds.specs.Evaluators.Known.{state, sure_of}
-use Rattle.candidate_rounds.specs.Table.Running.{StaysBesideTable}
-use Rattle.candidate_rounds.proofs.Table.Running.{stays-refl, stays-trans}
 use Rattle.overlaps.proofs.AskedClauses.{arguments-fit-kept}
 use Rattle.overlaps.proofs.Negated.{both-ok, clause-denied}
-use Rattle.overlaps.proofs.Stopping.{later-table, stop-later}
+use Rattle.overlaps.proofs.Stopping.{later-steps, stop-later}
 use Rattle.overlaps.specs.Answered.{IsPlainYes}
 use Rattle.overlaps.specs.Negated.{IsDenied}
+use Rattle.overlaps.specs.Refused.{StaysBesideSteps}
+use Rattle.overlaps.proofs.Staying.{stays-refl, stays-trans}
 use Rattle.rounds_judge.specs.Table.GoalTable.{GoalTable}
 use Rattle.candidate_rounds.specs.Table.Goals.{Via}
 use Rattle.ir_trees.specs.Syntax.Words.{env_forest}
@@ -70,4 +70,4 @@ returns-clause-denied c =
     (both-ok _ _ c.is_answered_for_all.result c.is_answered_for_all.ensures.answered c.is_answered_for_all.ensures.for_all)
 
 pub returns-clause-cause : goal.returns-clause-cause
-returns-clause-cause c = so-err c.is_answered_for_all.result (λ s k. stop-later (later-table c.run_predicate.ensures.stays) k) c.is_answered_for_all.ensures.cause
+returns-clause-cause c = so-err c.is_answered_for_all.result (λ s k. stop-later (later-steps c.run_predicate.ensures.stays) k) c.is_answered_for_all.ensures.cause

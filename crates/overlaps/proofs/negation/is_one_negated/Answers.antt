@@ -3,10 +3,10 @@ use Rattle.ir_folds.proofs.Instantiation.Joining.{clause-kept}
 use Rattle.candidate_eval.proofs.Dynamic.Objects.{env-kept}
 use Rattle.candidate_eval.proofs.Outcomes.Pairs.{clause_there}
 use Rattle.candidate_rounds.specs.Evaluators.Known.{sure_of}
-use Rattle.candidate_rounds.proofs.Table.Running.{stays-refl, stays-trans}
 use Rattle.overlaps.proofs.Negated.{one-denied}
-use Rattle.overlaps.proofs.Stopping.{later-table, passed-on, stop-later}
+use Rattle.overlaps.proofs.Stopping.{later-steps, passed-on, stop-later}
 use Rattle.overlaps.specs.Stopping.{IsOverlapStop}
+use Rattle.overlaps.proofs.Staying.{stays-refl, stays-trans}
 use Rattle.overlaps.proofs.negation.is_one_negated.Goals as goal
 
 pub loop-number-init : goal.loop-number-init
@@ -24,7 +24,7 @@ pub returns-in_err-is_negation_answered-clause-stays : goal.returns-in_err-is_ne
 returns-in_err-is_negation_answered-clause-stays c = stays-trans c.loop-number.invariant c.is_negation_answered.ensures.stays
 
 pub returns-in_err-is_negation_answered-clause-cause : goal.returns-in_err-is_negation_answered-clause-cause
-returns-in_err-is_negation_answered-clause-cause c = passed-on (IsOverlapStop c.args.rounds.now c.is_negation_answered.new.rounds) c.from_residual.result c.in_err-is_negation_answered.field-0.0 c.from_residual.ensures.1 (stop-later (later-table c.loop-number.invariant) c.in_err-is_negation_answered.ensures.cause)
+returns-in_err-is_negation_answered-clause-cause c = passed-on (IsOverlapStop c.args.rounds.now c.is_negation_answered.new.rounds) c.from_residual.result c.in_err-is_negation_answered.field-0.0 c.from_residual.ensures.1 (stop-later (later-steps c.loop-number.invariant) c.in_err-is_negation_answered.ensures.cause)
 
 pub returns-then-branch-clause-stays : goal.returns-then-branch-clause-stays
 returns-then-branch-clause-stays c = stays-trans c.loop-number.invariant c.is_negation_answered.ensures.stays

@@ -1,6 +1,6 @@
-use Rattle.candidate_rounds.specs.Table.Running.{StaysBesideTable}
+use Rattle.overlaps.specs.Refused.{StaysBesideSteps}
 use Rattle.overlaps.proofs.negation.is_one_negated.Given as goal
 
 -- all stays but the table
 abbrev pub invariant-loop-number : goal.invariant-loop-number
-invariant-loop-number l = StaysBesideTable l.fn.rounds l.rounds
+invariant-loop-number l = StaysBesideSteps l.fn.rounds l.rounds

@@ -4,12 +4,12 @@ use Rattle.ir_trees.specs.Declarations.Context.{Context}
 use Rattle.ir_trees.specs.Declarations.Declaring.{impl_at}
 use Rattle.ir_trees.specs.Validity.WellFormed.{ImplIsGiven}
 use Rattle.candidate_rounds.specs.Evaluators.Known.{state, sure_of}
-use Rattle.candidate_rounds.proofs.Table.Running.{stays-refl, stays-trans}
 use Rattle.overlaps.specs.Apart.{OfDeclared, aside}
 use Rattle.overlaps.specs.Negated.{IsNegatedBy, clause_of_first, clause_of_second}
 use Rattle.overlaps.proofs.Negated.{negated-earlier, some-holds}
-use Rattle.overlaps.proofs.Stopping.{later-table, passed-on, stop-later}
+use Rattle.overlaps.proofs.Stopping.{later-steps, passed-on, stop-later}
 use Rattle.overlaps.specs.Stopping.{IsOverlapStop}
+use Rattle.overlaps.proofs.Staying.{stays-refl, stays-trans}
 use Rattle.overlaps.proofs.negation.kept_apart_by_negation.Goals as goal
 
 pub returns-then-not-have_common_trait-clause-stays : goal.returns-then-not-have_common_trait-clause-stays
@@ -26,7 +26,7 @@ pub returns-in_err-number-2-clause-stays : goal.returns-in_err-number-2-clause-s
 returns-in_err-number-2-clause-stays c = stays-trans c.negated_aside.ensures.stays c.negated_aside-2.ensures.stays
 
 pub returns-in_err-number-2-clause-cause : goal.returns-in_err-number-2-clause-cause
-returns-in_err-number-2-clause-cause c = passed-on (IsOverlapStop c.args.rounds.now c.negated_aside-2.new.rounds) c.from_residual-in_err-number-2.result c.in_err-number-2.field-0.0 c.from_residual-in_err-number-2.ensures.1 (stop-later (later-table c.negated_aside.ensures.stays) c.in_err-number-2.ensures.cause)
+returns-in_err-number-2-clause-cause c = passed-on (IsOverlapStop c.args.rounds.now c.negated_aside-2.new.rounds) c.from_residual-in_err-number-2.result c.in_err-number-2.field-0.0 c.from_residual-in_err-number-2.ensures.1 (stop-later (later-steps c.negated_aside.ensures.stays) c.in_err-number-2.ensures.cause)
 
 pub returns-in-Some-2-clause-stays : goal.returns-in-Some-2-clause-stays
 returns-in-Some-2-clause-stays c = stays-trans c.negated_aside.ensures.stays c.negated_aside-2.ensures.stays

@@ -2,16 +2,15 @@ use Rattle.std.proofs.Common.{sym, subst}
 use Rattle.std.proofs.lemmas.Result.{IfOk-weaker}
 use Rattle.candidate_eval.proofs.Interface.Accounts.{memory-somehow}
 use Rattle.candidate_assembly.proofs.Calls.Causes.{so-err}
-use Rattle.candidate_rounds.specs.Table.Running.{StaysBesideTable}
-use Rattle.candidate_rounds.proofs.Table.Running.{stays-refl}
+use Rattle.overlaps.specs.Refused.{StaysBesideSteps}
 use Rattle.overlaps.proofs.Negated.{negated-probed, some-weaker}
-use Rattle.overlaps.proofs.Staying.{probe-stays}
+use Rattle.overlaps.proofs.Staying.{probe-stays, stays-refl}
 use Rattle.overlaps.proofs.Stopping.{asking-stop, later-begun, later-refl, passed-on, stop-later, stop-left}
 use Rattle.overlaps.specs.Stopping.{IsOverlapStop}
 use Rattle.overlaps.proofs.negation.negated_aside.Goals as goal
 
 pub returns-in_err-probe-clause-stays : goal.returns-in_err-probe-clause-stays
-returns-in_err-probe-clause-stays c = subst (StaysBesideTable c.args.rounds.now) (sym c.in_err-probe.ensures.unchanged) (stays-refl c.args.rounds.now)
+returns-in_err-probe-clause-stays c = subst (StaysBesideSteps c.args.rounds.now) (sym c.in_err-probe.ensures.unchanged) (stays-refl c.args.rounds.now)
 
 pub returns-in_err-probe-clause-cause : goal.returns-in_err-probe-clause-cause
 returns-in_err-probe-clause-cause c = passed-on (IsOverlapStop c.args.rounds.now c.begin_probe.new.self) c.from_residual.result c.in_err-probe.field-0.0 c.from_residual.ensures.1 (asking-stop (later-refl c.args.rounds.now) (memory-somehow c.in_err-probe.ensures.cause))

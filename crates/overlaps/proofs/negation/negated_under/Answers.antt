@@ -4,10 +4,9 @@ use Rattle.ir_trees.specs.Instantiation.Owned.{ClausesAreOwned}
 use Rattle.ir_trees.specs.Syntax.Words.{args_forest}
 use Rattle.candidate_assembly.proofs.Calls.Causes.{so-err}
 use Rattle.candidate_rounds.specs.Evaluators.Known.{sure_of}
-use Rattle.candidate_rounds.proofs.Table.Running.{stays-trans}
 use Rattle.overlaps.proofs.Negated.{negated-under, some-weaker}
 use Rattle.overlaps.proofs.Pairs.{pair-later}
-use Rattle.overlaps.proofs.Staying.{stays-kept}
+use Rattle.overlaps.proofs.Staying.{stays-kept, stays-trans}
 use Rattle.overlaps.proofs.Stopping.{asking-stop, later-kept, later-refl, passed-on, stop-later}
 use Rattle.overlaps.specs.Stopping.{IsOverlapStop}
 use Rattle.overlaps.proofs.negation.negated_under.Goals as goal

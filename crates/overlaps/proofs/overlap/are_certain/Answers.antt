@@ -2,8 +2,8 @@ use Rattle.std.proofs.Common.{inl, inr, subst}
 use Rattle.std.proofs.lemmas.Result.{IfOk-weaker}
 use Rattle.ir_trees.specs.Declarations.Context.{Context}
 use Rattle.ir_trees.specs.Syntax.Words.{args_forest}
-use Rattle.candidate_rounds.proofs.Table.Running.{stays-refl}
 use Rattle.overlaps.specs.Uncertain.{HeadersHaveAlias}
+use Rattle.overlaps.proofs.Staying.{stays-refl}
 use Rattle.overlaps.proofs.overlap.are_certain.Goals as goal
 
 pub returns-then-have_aliases-clause-stays : goal.returns-then-have_aliases-clause-stays

@@ -1,14 +1,14 @@
 use Rattle.std.proofs.Common.{sym, subst}
 use Rattle.std.proofs.lemmas.Result.{IfOk-weaker}
 use Rattle.candidate_rounds.specs.Evaluators.Known.{state}
-use Rattle.candidate_rounds.specs.Table.Running.{StaysBesideTable}
-use Rattle.candidate_rounds.proofs.Table.Running.{stays-refl}
 use Rattle.overlaps.specs.Apart.{aside}
+use Rattle.overlaps.specs.Refused.{StaysBesideSteps}
 use Rattle.overlaps.proofs.AskedPairs.{asked-probed, before-probed, may-weaker, of-clause-weaker}
 use Rattle.overlaps.proofs.Instances.{found-probed}
 use Rattle.overlaps.proofs.Uncertainty.{uncertain-probed, uncertain-weaker}
 use Rattle.overlaps.proofs.Stopping.{asking-stop, later-begun, later-refl, passed-on, stop-later, stop-left}
 use Rattle.overlaps.specs.Stopping.{IsOverlapStop}
+use Rattle.overlaps.proofs.Staying.{probe-stays, stays-refl}
 use Rattle.candidate_assembly.proofs.Calls.Causes.{so-err}
 use Rattle.candidate_eval.proofs.Interface.Accounts.{memory-somehow}
 use Rattle.overlaps.proofs.overlap.overlap_aside.Goals as goal
@@ -17,7 +17,7 @@ pub returns-then-not-have_common_trait-clause-stays : goal.returns-then-not-have
 returns-then-not-have_common_trait-clause-stays c = stays-refl c.args.rounds.now
 
 pub returns-in_err-probe-clause-stays : goal.returns-in_err-probe-clause-stays
-returns-in_err-probe-clause-stays c = subst (StaysBesideTable c.args.rounds.now) (sym c.in_err-probe.ensures.unchanged) (stays-refl c.args.rounds.now)
+returns-in_err-probe-clause-stays c = subst (StaysBesideSteps c.args.rounds.now) (sym c.in_err-probe.ensures.unchanged) (stays-refl c.args.rounds.now)
 
 pub returns-clause-is : goal.returns-clause-is
 returns-clause-is c =
@@ -63,3 +63,10 @@ returns-clause-uncertain c =
     (uncertain-weaker (uncertain-probed old began c.overlap_here-answer.new.rounds c.end_probe.new.self (aside (state old)) c.args.first c.args.second c.begin_probe.ensures.context c.begin_probe.ensures.fixed
     c.in_ok-probe.ensures.ok.0 c.end_probe.ensures.fixed))
     c.overlap_here-answer.ensures.uncertain
+
+pub returns-clause-stays : goal.returns-clause-stays
+returns-clause-stays c =
+    let began = c.in_ok-probe.ensures in
+    let end = c.end_probe.ensures in
+    probe-stays c.args.rounds.now c.begin_probe.new.self c.overlap_here-answer.new.rounds c.end_probe.new.self began.fixed began.grows began.faults began.ok.1 c.overlap_here-answer.ensures.stays end.fixed end.grows end.faults end.closed
+    end.left

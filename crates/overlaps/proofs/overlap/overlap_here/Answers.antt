@@ -7,7 +7,7 @@ use Rattle.overlaps.specs.Opening.{AreOpened}
 use Rattle.overlaps.proofs.Uncertainty.{uncertain-declared, uncertain-weaker}
 use Rattle.overlaps.proofs.Instances.{found-decides, found-here}
 use Rattle.overlaps.proofs.Pairs.{pair-pending}
-use Rattle.overlaps.proofs.Staying.{known-kept}
+use Rattle.overlaps.proofs.Staying.{known-kept, known-then}
 use Rattle.overlaps.proofs.Stopping.{asking-stop, later-kept, later-refl, passed-on, stop-later}
 use Rattle.overlaps.specs.Stopping.{IsOverlapStop}
 use Rattle.candidate_assembly.proofs.Calls.Causes.{so-err}
@@ -78,3 +78,6 @@ pub returns-clause-decided : goal.returns-clause-decided
 returns-clause-decided c =
     let mid = c.open_both.new.ecx in
     IfOk-weaker c.overlap_of_pair.result _ _ (found-decides mid c.overlap_of_pair.new.rounds c.in-Some.pair) c.overlap_of_pair.ensures.is
+
+pub returns-clause-stays : goal.returns-clause-stays
+returns-clause-stays c = known-then (known-kept c.open_both.ensures.kept) c.overlap_of_pair.ensures.stays

@@ -1,5 +1,5 @@
 use Rattle.std.proofs.Common.{◌≡◌, None, Some, sym, ◌∙◌}
-use Rattle.candidate_rounds.proofs.Table.Running.{stays-refl}
+use Rattle.overlaps.proofs.Staying.{stays-refl}
 use Rattle.overlaps.proofs.overlap.overlap_of_ordered.Goals as goal
 
 pub returns-in-Some-clause-stays : goal.returns-in-Some-clause-stays

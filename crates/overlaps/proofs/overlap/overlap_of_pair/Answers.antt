@@ -171,3 +171,9 @@ returns-clause-uncertain c =
     (grows-trans _ _ _ c.mk_param_env.ensures.made.kept (grows-trans _ _ _ c.make_equal.ensures.kept.grows c.begin_probe.ensures.grows)) c.requires.pair equal c.in_ok-aside.ensures.ok.0 c.end_probe.ensures.fixed c.in_ok-leaks.leaks
     (λ e. subst (λ (u : ℕ). Leaks u after) c.newest_universe-above.ensures (c.in_ok-leaks.ensures.yes e))))
     c.overlap_unless_leaking-answer.ensures.uncertain
+
+pub returns-in_err-instance-clause-stays : goal.returns-in_err-instance-clause-stays
+returns-in_err-instance-clause-stays c = known-beside c.common_instance.ensures.stays
+
+pub returns-then-are_undecided-clause-stays : goal.returns-then-are_undecided-clause-stays
+returns-then-are_undecided-clause-stays c = known-beside c.common_instance.ensures.stays

@@ -1,7 +1,6 @@
 use Rattle.std.proofs.Common.{sym, subst, ◌∙◌}
 use Rattle.ir_trees.proofs.Growth.Kept.{args-kept, grows-trans}
 use Rattle.candidate_eval.proofs.Dynamic.Objects.{env-kept}
-use Rattle.candidate_rounds.proofs.Table.Running.{stays-trans}
 use Rattle.candidate_rounds.specs.Evaluators.Known.{state, sure_of, table_of}
 use Rattle.overlaps.specs.Asked.{BothStay}
 use Rattle.overlaps.proofs.Instances.{instance-where-equal}
@@ -11,8 +10,9 @@ use Rattle.rounds_judge.specs.Table.GoalTable.{GoalTable}
 use Rattle.overlaps.specs.Uncertain.{IsUncertainWhereEqual}
 use Rattle.overlaps.proofs.Uncertainty.{where-equal-earlier}
 use Rattle.overlaps.proofs.Pairs.{pair-later}
-use Rattle.overlaps.proofs.Stopping.{later-table, passed-on, stop-later}
+use Rattle.overlaps.proofs.Stopping.{later-steps, passed-on, stop-later}
 use Rattle.overlaps.specs.Stopping.{IsOverlapStop}
+use Rattle.overlaps.proofs.Staying.{stays-trans}
 use Rattle.overlaps.proofs.overlap.overlap_where_equal.Goals as goal
 
 pub are_certain-requires-clause-env : goal.are_certain-requires-clause-env
@@ -47,10 +47,10 @@ pub returns-in_err-clause-clause-cause : goal.returns-in_err-clause-clause-cause
 returns-in_err-clause-clause-cause c = passed-on (IsOverlapStop c.args.rounds.now c.refused_clause.new.rounds) c.from_residual.result c.in_err-clause.field-0.0 c.from_residual.ensures.1 (c.in_err-clause.ensures.cause)
 
 pub returns-in_err-is_certain-clause-cause : goal.returns-in_err-is_certain-clause-cause
-returns-in_err-is_certain-clause-cause c = passed-on (IsOverlapStop c.args.rounds.now c.are_certain.new.rounds) c.from_residual-in_err-is_certain.result c.in_err-is_certain.field-0.0 c.from_residual-in_err-is_certain.ensures.1 (stop-later (later-table c.refused_clause.ensures.stays) c.in_err-is_certain.ensures.cause)
+returns-in_err-is_certain-clause-cause c = passed-on (IsOverlapStop c.args.rounds.now c.are_certain.new.rounds) c.from_residual-in_err-is_certain.result c.in_err-is_certain.field-0.0 c.from_residual-in_err-is_certain.ensures.1 (stop-later (later-steps c.refused_clause.ensures.stays) c.in_err-is_certain.ensures.cause)
 
 pub returns-in_err-instance-clause-cause : goal.returns-in_err-instance-clause-cause
-returns-in_err-instance-clause-cause c = passed-on (IsOverlapStop c.args.rounds.now c.common_instance.new.rounds) c.from_residual-in_err-instance.result c.in_err-instance.field-0.0 c.from_residual-in_err-instance.ensures.1 (stop-later (later-table (stays-trans c.refused_clause.ensures.stays c.are_certain.ensures.stays)) c.in_err-instance.ensures.cause)
+returns-in_err-instance-clause-cause c = passed-on (IsOverlapStop c.args.rounds.now c.common_instance.new.rounds) c.from_residual-in_err-instance.result c.in_err-instance.field-0.0 c.from_residual-in_err-instance.ensures.1 (stop-later (later-steps (stays-trans c.refused_clause.ensures.stays c.are_certain.ensures.stays)) c.in_err-instance.ensures.cause)
 
 pub returns-clause-asked : goal.returns-clause-asked
 returns-clause-asked c =

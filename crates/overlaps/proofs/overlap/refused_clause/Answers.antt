@@ -5,14 +5,14 @@ use Rattle.ir_trees.specs.Syntax.Words.{args_forest}
 use Rattle.ir_trees.proofs.Growth.Kept.{args-kept}
 use Rattle.candidate_eval.proofs.Dynamic.Objects.{env-kept}
 use Rattle.candidate_assembly.proofs.Rules.ImplSteps.{owned-still}
-use Rattle.candidate_rounds.proofs.Table.Running.{stays-trans}
 use Rattle.candidate_rounds.specs.Evaluators.Known.{state, table_of}
 use Rattle.overlaps.specs.Asked.{AllStay, FirstStay, before_of_first}
 use Rattle.overlaps.proofs.AskedClauses.{before-of-second, both-stay}
 use Rattle.overlaps.specs.Refused.{RefusesOne, of_first, of_second}
 use Rattle.overlaps.proofs.Refusing.{one-earlier}
-use Rattle.overlaps.proofs.Stopping.{later-table, passed-on, stop-later}
+use Rattle.overlaps.proofs.Stopping.{later-steps, passed-on, stop-later}
 use Rattle.overlaps.specs.Stopping.{IsOverlapStop}
+use Rattle.overlaps.proofs.Staying.{stays-trans}
 use Rattle.overlaps.proofs.overlap.refused_clause.Goals as goal
 
 pub returns-in-Some-clause-refused : goal.returns-in-Some-clause-refused
@@ -73,7 +73,7 @@ pub returns-in_err-number-clause-cause : goal.returns-in_err-number-clause-cause
 returns-in_err-number-clause-cause c = passed-on (IsOverlapStop c.args.rounds.now c.first_refused.new.rounds) c.from_residual.result c.in_err-number.field-0.0 c.from_residual.ensures.1 (c.in_err-number.ensures.cause)
 
 pub returns-in_err-number-2-clause-cause : goal.returns-in_err-number-2-clause-cause
-returns-in_err-number-2-clause-cause c = passed-on (IsOverlapStop c.args.rounds.now c.first_refused-2.new.rounds) c.from_residual-in_err-number-2.result c.in_err-number-2.field-0.0 c.from_residual-in_err-number-2.ensures.1 (stop-later (later-table c.first_refused.ensures.stays) c.in_err-number-2.ensures.cause)
+returns-in_err-number-2-clause-cause c = passed-on (IsOverlapStop c.args.rounds.now c.first_refused-2.new.rounds) c.from_residual-in_err-number-2.result c.in_err-number-2.field-0.0 c.from_residual-in_err-number-2.ensures.1 (stop-later (later-steps c.first_refused.ensures.stays) c.in_err-number-2.ensures.cause)
 
 pub returns-clause-asked : goal.returns-clause-asked
 returns-clause-asked c = λ none.

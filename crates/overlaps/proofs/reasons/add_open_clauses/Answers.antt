@@ -4,7 +4,7 @@ use Rattle.candidate_eval.proofs.Interface.Accounts.{memory-somehow}
 use Rattle.overlaps.specs.Stopping.{IsOverlapStop}
 use Rattle.overlaps.proofs.OpenClauses.{all-listed, impl-later, none-listed, one-more}
 use Rattle.overlaps.proofs.PureFolder.{asked-then}
-use Rattle.overlaps.proofs.Stopping.{asking-stop, later-table, passed-on, stop-later}
+use Rattle.overlaps.proofs.Stopping.{asking-stop, later-steps, passed-on, stop-later}
 use Rattle.overlaps.proofs.reasons.add_open_clauses.Goals as goal
 
 pub loop-number-init : goal.loop-number-init
@@ -29,7 +29,7 @@ pub returns-in_err-found-clause-table : goal.returns-in_err-found-clause-table
 returns-in_err-found-clause-table c = (asked-then c.loop-number.invariant.asked c.open_clause.ensures.stays c.open_clause.ensures.table).table
 
 pub returns-in_err-found-clause-cause : goal.returns-in_err-found-clause-cause
-returns-in_err-found-clause-cause c = passed-on (IsOverlapStop c.args.rounds.now c.open_clause.new.rounds) c.from_residual.result c.in_err-found.field-0.0 c.from_residual.ensures.1 (stop-later (later-table c.loop-number.invariant.asked.stays) c.in_err-found.ensures.cause)
+returns-in_err-found-clause-cause c = passed-on (IsOverlapStop c.args.rounds.now c.open_clause.new.rounds) c.from_residual.result c.in_err-found.field-0.0 c.from_residual.ensures.1 (stop-later (later-steps c.loop-number.invariant.asked.stays) c.in_err-found.ensures.cause)
 
 pub returns-in_err-add_if_open-clause-stays : goal.returns-in_err-add_if_open-clause-stays
 returns-in_err-add_if_open-clause-stays c = (asked-then c.loop-number.invariant.asked c.open_clause.ensures.stays c.open_clause.ensures.table).stays
@@ -41,7 +41,7 @@ pub returns-in_err-add_if_open-clause-cause : goal.returns-in_err-add_if_open-cl
 returns-in_err-add_if_open-clause-cause c =
     let so = asked-then c.loop-number.invariant.asked c.open_clause.ensures.stays c.open_clause.ensures.table in
     passed-on (IsOverlapStop c.args.rounds.now c.open_clause.new.rounds) c.from_residual-in_err-add_if_open.result c.in_err-add_if_open.field-0.0 c.from_residual-in_err-add_if_open.ensures.1
-    (asking-stop (later-table so.stays) (memory-somehow c.in_err-add_if_open.ensures.cause))
+    (asking-stop (later-steps so.stays) (memory-somehow c.in_err-add_if_open.ensures.cause))
 
 pub returns-clause-stays : goal.returns-clause-stays
 returns-clause-stays c = c.loop-number.invariant.asked.stays

@@ -5,10 +5,10 @@ use Rattle.ir_trees.specs.Declarations.References.{ArgumentsFit}
 use Rattle.ir_trees.specs.Syntax.Words.{IsArgs, args_forest, clause_tree}
 use Rattle.candidate_eval.specs.Dynamic.ObjectRequirements.{arguments_of, trait_said}
 use Rattle.candidate_assembly.specs.Goals.TraitGoals.{trait_goal}
-use Rattle.candidate_rounds.proofs.Table.Running.{stays-refl}
 use Rattle.overlaps.specs.Answered.{answered, assumed, is_outlives}
 use Rattle.overlaps.specs.Reasons.{here_at, says_else}
 use Rattle.overlaps.proofs.OpenClauses.{some-cause}
+use Rattle.overlaps.proofs.Staying.{stays-refl}
 use Rattle.overlaps.proofs.reasons.cause_of_clause.Goals as goal
 
 pub returns-then-is_outlives-clause-stays : goal.returns-then-is_outlives-clause-stays

@@ -13,7 +13,6 @@ use Rattle.candidate_assembly.specs.Goals.TraitGoals.{trait_goal}
 use Rattle.candidate_assembly.proofs.Calls.Causes.{so-err}
 use Rattle.candidate_rounds.specs.Evaluators.Known.{state, table_of}
 use Rattle.candidate_rounds.specs.Table.Goals.{verdict_seen}
-use Rattle.candidate_rounds.proofs.Table.Running.{stays-refl}
 use Rattle.rounds_judge.specs.Table.GoalTable.{verdict_in}
 use Rattle.rounds_judge.specs.Table.Keys.{key_at}
 use Rattle.rounds_judge.specs.Table.Verdicts.{Maybe, Refused, Yes}
@@ -21,7 +20,8 @@ use Rattle.overlaps.specs.Reasons.{IsCauseOfYes, cause_of_unasked, here_at, stan
 use Rattle.overlaps.specs.Stopping.{IsOverlapStop, step_key}
 use Rattle.overlaps.specs.declared.reasons.Cause.TheVariants as C
 use Rattle.overlaps.proofs.OpenClauses.{cause-by, maybe-earlier, some-yes}
-use Rattle.overlaps.proofs.Stopping.{asking-stop, later-refl, later-table, passed-on, step-stop, stop-later}
+use Rattle.overlaps.proofs.Staying.{stays-refl, stays-same, stays-trans}
+use Rattle.overlaps.proofs.Stopping.{asking-stop, later-refl, later-steps, passed-on, step-stop, stop-later}
 use Rattle.overlaps.proofs.reasons.cause_of_goal.Goals as goal
 
 pub returns-then-not-stands_here-clause-stays : goal.returns-then-not-stands_here-clause-stays
@@ -73,7 +73,7 @@ cause_of_maybe-requires-clause-args c = (args-kept _ _ c.args.predicate.trait_re
 pub returns-in_err-cause_of_maybe-in-Some-Maybe-clause-cause : goal.returns-in_err-cause_of_maybe-in-Some-Maybe-clause-cause
 returns-in_err-cause_of_maybe-in-Some-Maybe-clause-cause c =
     passed-on (IsOverlapStop c.args.rounds.now c.cause_of_maybe.new.rounds) c.from_residual-in_err-cause_of_maybe-in-Some-Maybe.result c.in_err-cause_of_maybe-in-Some-Maybe.field-0.0
-    c.from_residual-in_err-cause_of_maybe-in-Some-Maybe.ensures.1 (stop-later (later-table c.entry.ensures.stays) c.in_err-cause_of_maybe-in-Some-Maybe.ensures.cause)
+    c.from_residual-in_err-cause_of_maybe-in-Some-Maybe.ensures.1 (stop-later (later-steps (stays-same c.entry.ensures.stays c.entry.ensures.table)) c.in_err-cause_of_maybe-in-Some-Maybe.ensures.cause)
 
 pub returns-in-Some-Maybe-clause-is : goal.returns-in-Some-Maybe-clause-is
 returns-in-Some-Maybe-clause-is c =
@@ -85,7 +85,7 @@ returns-in-Some-Maybe-clause-is c =
     let maybe : verdict_in (table_of old) (key_at (state old) g) ≡ Some (Maybe seen c.in-Some-Maybe.field-0-1)
     = sym c.in_ok-verdict.ensures.is ∙ ap (option_map (verdict_seen mid.context.trees)) (c.in-Some-Maybe.is ∙ ap Some says) in
     cause-by (here_at old c.args.env) g (Some (Maybe seen c.in-Some-Maybe.field-0-1)) c.in_ok-cause_of_maybe-in-Some-Maybe.field-0 maybe
-    (maybe-earlier old mid c.args.env c.args.predicate.trait_ref c.in_ok-cause_of_maybe-in-Some-Maybe.field-0 (record { stays = c.entry.ensures.stays; table = c.entry.ensures.table }) c.requires.env c.requires.args
+    (maybe-earlier old mid c.args.env c.args.predicate.trait_ref c.in_ok-cause_of_maybe-in-Some-Maybe.field-0 (record { stays = (stays-same c.entry.ensures.stays c.entry.ensures.table); table = c.entry.ensures.table }) c.requires.env c.requires.args
     c.in_ok-cause_of_maybe-in-Some-Maybe.ensures.is)
 
 pub returns-clause-is : goal.returns-clause-is
@@ -103,3 +103,21 @@ returns-clause-is c =
 
 pub returns-clause-cause : goal.returns-clause-cause
 returns-clause-cause c = so-err c.cause_of_yes.result (λ s k. asking-stop (later-refl c.args.rounds.now) (memory-somehow k)) c.cause_of_yes.ensures.cause
+
+pub returns-in_err-verdict-clause-stays : goal.returns-in_err-verdict-clause-stays
+returns-in_err-verdict-clause-stays c = stays-same c.entry.ensures.stays c.entry.ensures.table
+
+pub returns-in-None-clause-stays : goal.returns-in-None-clause-stays
+returns-in-None-clause-stays c = stays-same c.entry.ensures.stays c.entry.ensures.table
+
+pub returns-in-Some-Refused-clause-stays : goal.returns-in-Some-Refused-clause-stays
+returns-in-Some-Refused-clause-stays c = stays-same c.entry.ensures.stays c.entry.ensures.table
+
+pub returns-in_err-cause_of_maybe-in-Some-Maybe-clause-stays : goal.returns-in_err-cause_of_maybe-in-Some-Maybe-clause-stays
+returns-in_err-cause_of_maybe-in-Some-Maybe-clause-stays c = stays-trans (stays-same c.entry.ensures.stays c.entry.ensures.table) c.cause_of_maybe.ensures.stays
+
+pub returns-in-Some-Maybe-clause-stays : goal.returns-in-Some-Maybe-clause-stays
+returns-in-Some-Maybe-clause-stays c = stays-trans (stays-same c.entry.ensures.stays c.entry.ensures.table) c.cause_of_maybe.ensures.stays
+
+pub returns-clause-stays : goal.returns-clause-stays
+returns-clause-stays c = stays-same c.entry.ensures.stays c.entry.ensures.table

@@ -2,8 +2,8 @@ use Rattle.std.proofs.Common.{◌≡◌, true, false, sym, subst, ◌∙◌}
 use Rattle.ir_trees.specs.Declarations.Context.{Context}
 use Rattle.ir_trees.specs.Syntax.Trees.{holds, is_alias}
 use Rattle.ir_trees.specs.Syntax.Words.{args_forest}
-use Rattle.candidate_rounds.proofs.Table.Running.{stays-refl}
 use Rattle.overlaps.specs.Reasons.{by_alias, by_conflict, by_nothing_else}
+use Rattle.overlaps.proofs.Staying.{stays-refl}
 use Rattle.overlaps.proofs.reasons.cause_of_maybe.Goals as goal
 
 pub returns-then-has_alias-clause-stays : goal.returns-then-has_alias-clause-stays

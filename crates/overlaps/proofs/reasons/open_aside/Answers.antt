@@ -4,12 +4,12 @@ use Rattle.ir_trees.specs.Declarations.Context.{Context}
 use Rattle.candidate_eval.proofs.Interface.Accounts.{memory-somehow}
 use Rattle.candidate_assembly.proofs.Calls.Causes.{so-err}
 use Rattle.candidate_rounds.specs.Evaluators.Known.{state}
-use Rattle.candidate_rounds.specs.Table.Running.{StaysBesideTable}
-use Rattle.candidate_rounds.proofs.Table.Running.{stays-refl}
 use Rattle.overlaps.specs.Apart.{AreOfOtherTraits, aside}
 use Rattle.overlaps.specs.Reasons.{of_other_traits}
+use Rattle.overlaps.specs.Refused.{StaysBesideSteps}
 use Rattle.overlaps.specs.Stopping.{IsOverlapStop}
 use Rattle.overlaps.proofs.OpenClauses.{lists-probed}
+use Rattle.overlaps.proofs.Staying.{probe-stays, stays-refl}
 use Rattle.overlaps.proofs.Stopping.{asking-stop, later-begun, later-refl, passed-on, stop-later, stop-left}
 use Rattle.overlaps.proofs.reasons.open_aside.Goals as goal
 
@@ -21,7 +21,7 @@ returns-then-not-have_common_trait-clause-lists c =
     of_other_traits (subst (λ (x : Context). AreOfOtherTraits x c.args.first c.args.second) c.cx.ensures (c.have_common_trait.ensures.other c.if-not-have_common_trait.true)) c.new.ensures.items
 
 pub returns-in_err-probe-clause-stays : goal.returns-in_err-probe-clause-stays
-returns-in_err-probe-clause-stays c = subst (StaysBesideTable c.args.rounds.now) (sym c.in_err-probe.ensures.unchanged) (stays-refl c.args.rounds.now)
+returns-in_err-probe-clause-stays c = subst (StaysBesideSteps c.args.rounds.now) (sym c.in_err-probe.ensures.unchanged) (stays-refl c.args.rounds.now)
 
 pub returns-in_err-probe-clause-cause : goal.returns-in_err-probe-clause-cause
 returns-in_err-probe-clause-cause c = passed-on (IsOverlapStop c.args.rounds.now c.begin_probe.new.self) c.from_residual.result c.in_err-probe.field-0.0 c.from_residual.ensures.1 (asking-stop (later-refl c.args.rounds.now) (memory-somehow c.in_err-probe.ensures.cause))
@@ -37,3 +37,10 @@ returns-clause-lists c =
 pub returns-clause-cause : goal.returns-clause-cause
 returns-clause-cause c =
     so-err c.open_here-answer.result (λ s k. stop-left c.end_probe.ensures.context c.end_probe.ensures.fixed (stop-later (later-begun c.begin_probe.ensures.grows c.begin_probe.ensures.fixed) k)) c.open_here-answer.ensures.cause
+
+pub returns-clause-stays : goal.returns-clause-stays
+returns-clause-stays c =
+    let began = c.in_ok-probe.ensures in
+    let end = c.end_probe.ensures in
+    probe-stays c.args.rounds.now c.begin_probe.new.self c.open_here-answer.new.rounds c.end_probe.new.self began.fixed began.grows began.faults began.ok.1 c.open_here-answer.ensures.stays end.fixed end.grows end.faults end.closed
+    end.left

@@ -11,7 +11,7 @@ use Rattle.overlaps.specs.Stopping.{IsOverlapStop}
 use Rattle.overlaps.proofs.OpenClauses.{cause-before, holds-before}
 use Rattle.overlaps.proofs.PureFolder.{asked-kept}
 use Rattle.overlaps.proofs.Refusing.{got-fits, got-there}
-use Rattle.overlaps.proofs.Staying.{stays-kept}
+use Rattle.overlaps.proofs.Staying.{stays-kept, stays-trans}
 use Rattle.overlaps.proofs.Stopping.{asking-stop, later-kept, later-refl, passed-on, stop-later}
 use Rattle.overlaps.proofs.reasons.open_clause.Goals as goal
 
@@ -70,3 +70,12 @@ returns-clause-is c =
       cause = subst (λ (u : Tree). IsCause (here_at old env) u w) c.in_ok-clause.ensures.tree
           (cause-before old mid env t w (asked-kept c.with_values.ensures.kept c.with_values.ensures.same) c.requires.env why);
     }
+
+pub returns-in_err-cause-clause-stays : goal.returns-in_err-cause-clause-stays
+returns-in_err-cause-clause-stays c = stays-trans (stays-kept c.with_values.ensures.kept c.with_values.ensures.same) c.cause_of_clause.ensures.stays
+
+pub returns-in_default-clause-stays : goal.returns-in_default-clause-stays
+returns-in_default-clause-stays c = stays-trans (stays-kept c.with_values.ensures.kept c.with_values.ensures.same) c.cause_of_clause.ensures.stays
+
+pub returns-clause-stays : goal.returns-clause-stays
+returns-clause-stays c = stays-trans (stays-kept c.with_values.ensures.kept c.with_values.ensures.same) c.cause_of_clause.ensures.stays

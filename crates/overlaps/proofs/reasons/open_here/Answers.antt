@@ -8,7 +8,7 @@ use Rattle.overlaps.specs.Reasons.{of_other_traits}
 use Rattle.overlaps.specs.Stopping.{IsOverlapStop}
 use Rattle.overlaps.proofs.Pairs.{are-open, pair-pending}
 use Rattle.overlaps.proofs.OpenClauses.{lists-declared}
-use Rattle.overlaps.proofs.Staying.{known-kept}
+use Rattle.overlaps.proofs.Staying.{known-kept, known-then}
 use Rattle.overlaps.proofs.Stopping.{asking-stop, later-kept, later-refl, passed-on, stop-later}
 use Rattle.overlaps.proofs.reasons.open_here.Goals as goal
 
@@ -51,3 +51,6 @@ returns-clause-lists c =
 
 pub returns-clause-cause : goal.returns-clause-cause
 returns-clause-cause c = so-err c.open_of_pair.result (λ s k. stop-later (later-kept c.open_both.ensures.kept) k) c.open_of_pair.ensures.cause
+
+pub returns-clause-stays : goal.returns-clause-stays
+returns-clause-stays c = known-then (known-kept c.open_both.ensures.kept) c.open_of_pair.ensures.stays

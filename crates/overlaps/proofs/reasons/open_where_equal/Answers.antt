@@ -2,14 +2,14 @@ use Rattle.std.proofs.Common.{[], List, sym, subst, ◌∙◌}
 use Rattle.ir_trees.proofs.Growth.Kept.{grows-trans}
 use Rattle.candidate_eval.proofs.Dynamic.Objects.{env-kept}
 use Rattle.candidate_rounds.specs.Evaluators.Known.{state}
-use Rattle.candidate_rounds.proofs.Table.Running.{stays-trans}
 use Rattle.overlaps.specs.Reasons.{ListsAll, here_at, open_impl}
 use Rattle.overlaps.specs.Stopping.{IsOverlapStop}
 use Rattle.overlaps.specs.declared.reasons.OpenClause.{OpenClause}
 use Rattle.overlaps.proofs.Pairs.{pair-later}
 use Rattle.overlaps.proofs.OpenClauses.{fixed-kept, lists-before, lists-there}
 use Rattle.overlaps.proofs.PureFolder.{StaysAsAsked}
-use Rattle.overlaps.proofs.Stopping.{later-table, passed-on, stop-later}
+use Rattle.overlaps.proofs.Staying.{stays-trans}
+use Rattle.overlaps.proofs.Stopping.{later-steps, passed-on, stop-later}
 use Rattle.overlaps.proofs.reasons.open_where_equal.Goals as goal
 
 pub add_open_clauses-requires-clause-env : goal.add_open_clauses-requires-clause-env
@@ -37,10 +37,10 @@ pub returns-in_err-refused_clause-clause-cause : goal.returns-in_err-refused_cla
 returns-in_err-refused_clause-clause-cause c = passed-on (IsOverlapStop c.args.rounds.now c.refused_clause.new.rounds) c.from_residual.result c.in_err-refused_clause.field-0.0 c.from_residual.ensures.1 (c.in_err-refused_clause.ensures.cause)
 
 pub returns-in_err-add_open_clauses-clause-cause : goal.returns-in_err-add_open_clauses-clause-cause
-returns-in_err-add_open_clauses-clause-cause c = passed-on (IsOverlapStop c.args.rounds.now c.add_open_clauses.new.rounds) c.from_residual-in_err-add_open_clauses.result c.in_err-add_open_clauses.field-0.0 c.from_residual-in_err-add_open_clauses.ensures.1 (stop-later (later-table c.refused_clause.ensures.stays) c.in_err-add_open_clauses.ensures.cause)
+returns-in_err-add_open_clauses-clause-cause c = passed-on (IsOverlapStop c.args.rounds.now c.add_open_clauses.new.rounds) c.from_residual-in_err-add_open_clauses.result c.in_err-add_open_clauses.field-0.0 c.from_residual-in_err-add_open_clauses.ensures.1 (stop-later (later-steps c.refused_clause.ensures.stays) c.in_err-add_open_clauses.ensures.cause)
 
 pub returns-in_err-add_open_clauses-2-clause-cause : goal.returns-in_err-add_open_clauses-2-clause-cause
-returns-in_err-add_open_clauses-2-clause-cause c = passed-on (IsOverlapStop c.args.rounds.now c.add_open_clauses-2.new.rounds) c.from_residual-in_err-add_open_clauses-2.result c.in_err-add_open_clauses-2.field-0.0 c.from_residual-in_err-add_open_clauses-2.ensures.1 (stop-later (later-table (stays-trans c.refused_clause.ensures.stays c.add_open_clauses.ensures.stays)) c.in_err-add_open_clauses-2.ensures.cause)
+returns-in_err-add_open_clauses-2-clause-cause c = passed-on (IsOverlapStop c.args.rounds.now c.add_open_clauses-2.new.rounds) c.from_residual-in_err-add_open_clauses-2.result c.in_err-add_open_clauses-2.field-0.0 c.from_residual-in_err-add_open_clauses-2.ensures.1 (stop-later (later-steps (stays-trans c.refused_clause.ensures.stays c.add_open_clauses.ensures.stays)) c.in_err-add_open_clauses-2.ensures.cause)
 
 pub returns-clause-lists : goal.returns-clause-lists
 returns-clause-lists c =

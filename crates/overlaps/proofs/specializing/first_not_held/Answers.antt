@@ -4,7 +4,7 @@ use Rattle.ir_trees.specs.Syntax.Words.{env_forest}
 use Rattle.candidate_eval.proofs.Dynamic.Objects.{env-kept}
 use Rattle.candidate_rounds.proofs.Obligations.Gathering.{each-index}
 use Rattle.overlaps.proofs.PureFolder.{sure-refl, sure-then}
-use Rattle.overlaps.proofs.Stopping.{later-table, passed-on, stop-later}
+use Rattle.overlaps.proofs.Stopping.{later-steps, passed-on, stop-later}
 use Rattle.overlaps.proofs.Typed.{all-held, one-held}
 use Rattle.overlaps.specs.Specialized.{IsLeft}
 use Rattle.overlaps.specs.Stopping.{IsOverlapStop}
@@ -52,4 +52,4 @@ returns-clause-hold c = λ e.
     all-held c.args.rounds.now c.loop-i.rounds (env_forest c.args.rounds.now.context.trees c.args.env) c.args.left.now c.loop-i.i c.loop-i.invariant (omega (arith, c.loop-i-test.false))
 
 pub returns-in_err-is_held-clause-cause : goal.returns-in_err-is_held-clause-cause
-returns-in_err-is_held-clause-cause c = passed-on (IsOverlapStop c.args.rounds.now c.is_held.new.rounds) c.from_residual.result c.in_err-is_held.field-0.0 c.from_residual.ensures.1 (stop-later (later-table c.loop-i.invariant.asked.stays) c.in_err-is_held.ensures.cause)
+returns-in_err-is_held-clause-cause c = passed-on (IsOverlapStop c.args.rounds.now c.is_held.new.rounds) c.from_residual.result c.in_err-is_held.field-0.0 c.from_residual.ensures.1 (stop-later (later-steps c.loop-i.invariant.asked.stays) c.in_err-is_held.ensures.cause)

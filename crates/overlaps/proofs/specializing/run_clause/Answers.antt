@@ -6,8 +6,7 @@ use Rattle.ir_trees.specs.Unification.Substitutions.{alone}
 use Rattle.candidate_eval.specs.Interface.Accounts.{resolve}
 use Rattle.candidate_eval.proofs.Dynamic.Objects.{env-kept}
 use Rattle.candidate_assembly.proofs.Calls.Causes.{asked-somehow, so-err}
-use Rattle.candidate_rounds.proofs.Table.Running.{stays-trans}
-use Rattle.overlaps.proofs.Staying.{stays-kept}
+use Rattle.overlaps.proofs.Staying.{stays-kept, stays-trans}
 use Rattle.overlaps.proofs.Stopping.{asking-stop, later-kept, later-refl, passed-on, stop-later}
 use Rattle.overlaps.specs.Stopping.{IsOverlapStop}
 use Rattle.overlaps.proofs.specializing.run_clause.Goals as goal

@@ -3,12 +3,11 @@ use Rattle.std.proofs.lemmas.Result.{IfOk-weaker}
 use Rattle.ir_trees.specs.Declarations.Context.{Context}
 use Rattle.candidate_eval.proofs.Interface.Accounts.{memory-somehow}
 use Rattle.candidate_assembly.proofs.Calls.Causes.{so-err}
-use Rattle.candidate_rounds.specs.Table.Running.{StaysBesideTable}
-use Rattle.candidate_rounds.proofs.Table.Running.{stays-refl}
 use Rattle.overlaps.specs.Apart.{IfDeclared}
+use Rattle.overlaps.specs.Refused.{StaysBesideSteps}
 use Rattle.overlaps.specs.Specialized.{AreAlike}
 use Rattle.overlaps.proofs.Specialized.{found-probed}
-use Rattle.overlaps.proofs.Staying.{probe-stays}
+use Rattle.overlaps.proofs.Staying.{probe-stays, stays-refl}
 use Rattle.overlaps.proofs.Stopping.{asking-stop, later-begun, later-refl, passed-on, stop-later, stop-left}
 use Rattle.overlaps.specs.Stopping.{IsOverlapStop}
 use Rattle.overlaps.proofs.specializing.specializes.Goals as goal
@@ -21,7 +20,7 @@ returns-then-not-are_alike-clause-is c =
     subst (λ (x : Context). IfDeclared x c.args.special c.args.general (λ i j. AreAlike i j → ⊥)) c.cx.ensures (c.are_alike.ensures.unlike c.if-not-are_alike.true)
 
 pub returns-in_err-probe-clause-stays : goal.returns-in_err-probe-clause-stays
-returns-in_err-probe-clause-stays c = subst (StaysBesideTable c.args.rounds.now) (sym c.in_err-probe.ensures.unchanged) (stays-refl c.args.rounds.now)
+returns-in_err-probe-clause-stays c = subst (StaysBesideSteps c.args.rounds.now) (sym c.in_err-probe.ensures.unchanged) (stays-refl c.args.rounds.now)
 
 pub specializes_here-answer-requires-clause-alike : goal.specializes_here-answer-requires-clause-alike
 specializes_here-answer-requires-clause-alike c =

@@ -2,9 +2,9 @@ use Rattle.std.proofs.Common.{◌≡◌, true, subst}
 use Rattle.std.specs.Prelude.{IfOk}
 use Rattle.ir_trees.specs.declared.decl.contents.ImplId.{ImplId}
 use Rattle.candidate_rounds.specs.Evaluators.Known.{state}
-use Rattle.candidate_rounds.proofs.Table.Running.{stays-refl}
 use Rattle.overlaps.specs.Apart.{OfDeclared, aside}
 use Rattle.overlaps.specs.Together.{ImplsCannotHold}
+use Rattle.overlaps.proofs.Staying.{stays-refl}
 use Rattle.overlaps.proofs.together.kept_apart_by_clauses.Goals as goal
 
 pub returns-then-not-opens_aliases-clause-stays : goal.returns-then-not-opens_aliases-clause-stays

@@ -13,6 +13,7 @@ use Rattle.overlaps.proofs.Stopping.{asking-stop, later-kept, later-known, later
 use Rattle.overlaps.specs.Stopping.{IsOverlapStop}
 use Rattle.overlaps.specs.Together.{IsProjectedAs, no_type_as_said, other_type, pending_at}
 use Rattle.overlaps.specs.declared.together.ProjectionType.{ProjectionType}
+use Rattle.overlaps.proofs.Staying.{known-kept, known-then}
 use Rattle.overlaps.proofs.together.make_term_equal.Goals as goal
 
 pub make_one_equal-requires-clause-env : goal.make_one_equal-requires-clause-env
@@ -80,3 +81,15 @@ returns-in_ok-leave_pending-in-Type-clause-tried c =
     (c.in_ok-make_one_equal-in-Type.ensures.equal c.if-not-branch.false) in
     let left = c.in_ok-leave_pending-in-Type.ensures in
     equal-left old at done new c.args.goal c.args.left.now.items c.leave_pending.new.left.items t u l m c.requires.said p.0 equal left.aside c.requires.left left.fit left.left
+
+pub returns-in_err-make_one_equal-in-Type-clause-stays : goal.returns-in_err-make_one_equal-in-Type-clause-stays
+returns-in_err-make_one_equal-in-Type-clause-stays c = known-then c.projected.ensures.stays (known-kept c.make_one_equal.ensures.kept)
+
+pub returns-then-not-branch-clause-stays : goal.returns-then-not-branch-clause-stays
+returns-then-not-branch-clause-stays c = known-then c.projected.ensures.stays (known-kept c.make_one_equal.ensures.kept)
+
+pub returns-in_err-leave_pending-in-Type-clause-stays : goal.returns-in_err-leave_pending-in-Type-clause-stays
+returns-in_err-leave_pending-in-Type-clause-stays c = known-then (known-then c.projected.ensures.stays (known-kept c.make_one_equal.ensures.kept)) (known-kept c.leave_pending.ensures.kept)
+
+pub returns-in_ok-leave_pending-in-Type-clause-stays : goal.returns-in_ok-leave_pending-in-Type-clause-stays
+returns-in_ok-leave_pending-in-Type-clause-stays c = known-then (known-then c.projected.ensures.stays (known-kept c.make_one_equal.ensures.kept)) (known-kept c.leave_pending.ensures.kept)

@@ -11,14 +11,15 @@ use Rattle.candidate_assembly.specs.Goals.TraitGoals.{trait_goal}
 use Rattle.candidate_assembly.proofs.Calls.Keeping.{trait-goal-kept}
 use Rattle.candidate_rounds.specs.Evaluators.Known.{sure_of}
 use Rattle.candidate_rounds.specs.Table.Normalizing.{trait_predicate}
-use Rattle.candidate_rounds.proofs.Table.Running.{stays-refl, stays-trans}
+use Rattle.candidate_rounds.proofs.Table.Coming.{comes-normalized}
 use Rattle.overlaps.proofs.JointNormals.{alias-args, came-of, normalizing-stop, of-projection, projection-later, still-projection, trait-key-later}
-use Rattle.overlaps.proofs.Stopping.{asking-stop, later-table, passed-on, step-stop, stop-later}
+use Rattle.overlaps.proofs.Stopping.{asking-stop, later-steps, passed-on, step-stop, stop-later}
 use Rattle.rounds_judge.specs.Table.GoalTable.{may_be_asked}
 use Rattle.rounds_judge.specs.Table.Keys.{Key}
 use Rattle.overlaps.specs.PartTraits.{HaveVariable, RestsOnPart}
 use Rattle.overlaps.specs.Stopping.{IsOverlapStop, step_key}
 use Rattle.overlaps.specs.Together.{HasYes}
+use Rattle.overlaps.proofs.Staying.{stays-by, stays-refl, stays-same, stays-trans}
 use Rattle.overlaps.proofs.together.normal.Goals as goal
 
 pub returns-then-not-args_fit-clause-stays : goal.returns-then-not-args_fit-clause-stays
@@ -35,28 +36,28 @@ stands_here-requires-clause-args c =
     subst (λ (q : TraitPredicate). IsArgs now.trees q.trait_ref.args) (sym is) (args-kept old now c.args.alias.args c.verdict_here.ensures.stays.grows (alias-args old.trees c.args.alias c.requires.alias)).0
 
 pub returns-in_err-may_be_run-clause-stays : goal.returns-in_err-may_be_run-clause-stays
-returns-in_err-may_be_run-clause-stays c = stays-trans c.verdict_here.ensures.stays c.may_be_run.ensures.stays
+returns-in_err-may_be_run-clause-stays c = stays-trans c.verdict_here.ensures.stays (stays-same c.may_be_run.ensures.stays c.may_be_run.ensures.table)
 
 pub returns-in_err-may_be_run-clause-cause : goal.returns-in_err-may_be_run-clause-cause
 returns-in_err-may_be_run-clause-cause c =
     let at = c.verdict_here.new.rounds in
     passed-on (IsOverlapStop c.args.rounds.now c.may_be_run.new.self) c.from_residual-in_err-may_be_run.result c.in_err-may_be_run.field-0.0 c.from_residual-in_err-may_be_run.ensures.1
-    (step-stop (later-table c.verdict_here.ensures.stays) (step_key (trait_goal at.context.trees c.args.env c.trait_predicate-predicate.result) c.in_err-may_be_run.ensures.cause))
+    (step-stop (later-steps c.verdict_here.ensures.stays) (step_key (trait_goal at.context.trees c.args.env c.trait_predicate-predicate.result) c.in_err-may_be_run.ensures.cause))
 
 pub returns-then-not-branch-clause-stays : goal.returns-then-not-branch-clause-stays
-returns-then-not-branch-clause-stays c = stays-trans c.verdict_here.ensures.stays c.may_be_run.ensures.stays
+returns-then-not-branch-clause-stays c = stays-trans c.verdict_here.ensures.stays (stays-same c.may_be_run.ensures.stays c.may_be_run.ensures.table)
 
 pub returns-in_err-is_proved-clause-stays : goal.returns-in_err-is_proved-clause-stays
-returns-in_err-is_proved-clause-stays c = stays-trans (stays-trans c.verdict_here.ensures.stays c.may_be_run.ensures.stays) c.is_proved.ensures.stays
+returns-in_err-is_proved-clause-stays c = stays-trans (stays-trans c.verdict_here.ensures.stays (stays-same c.may_be_run.ensures.stays c.may_be_run.ensures.table)) c.is_proved.ensures.stays
 
 pub returns-in_err-is_proved-clause-cause : goal.returns-in_err-is_proved-clause-cause
 returns-in_err-is_proved-clause-cause c =
-    let later = later-table (stays-trans c.verdict_here.ensures.stays c.may_be_run.ensures.stays) in
+    let later = later-steps (stays-trans c.verdict_here.ensures.stays (stays-same c.may_be_run.ensures.stays c.may_be_run.ensures.table)) in
     passed-on (IsOverlapStop c.args.rounds.now c.is_proved.new.rounds) c.from_residual-in_err-is_proved.result c.in_err-is_proved.field-0.0 c.from_residual-in_err-is_proved.ensures.1
     (stop-later later c.in_err-is_proved.ensures.cause)
 
 pub returns-then-not-branch-2-clause-stays : goal.returns-then-not-branch-2-clause-stays
-returns-then-not-branch-2-clause-stays c = stays-trans (stays-trans c.verdict_here.ensures.stays c.may_be_run.ensures.stays) c.is_proved.ensures.stays
+returns-then-not-branch-2-clause-stays c = stays-trans (stays-trans c.verdict_here.ensures.stays (stays-same c.may_be_run.ensures.stays c.may_be_run.ensures.table)) c.is_proved.ensures.stays
 
 pub refuses_instances-requires : goal.refuses_instances-requires
 refuses_instances-requires c =
@@ -64,21 +65,21 @@ refuses_instances-requires c =
     let s = c.is_proved.new.rounds.context in
     let alias = c.args.alias in
     let is : c.trait_predicate-predicate.result ≡ trait_predicate old alias = c.trait_predicate-predicate.ensures ∙ ap (λ (y : Context). trait_predicate y alias) c.cx-2.ensures in
-    let stays = stays-trans (stays-trans c.verdict_here.ensures.stays c.may_be_run.ensures.stays) c.is_proved.ensures.stays in
+    let stays = stays-trans (stays-trans c.verdict_here.ensures.stays (stays-same c.may_be_run.ensures.stays c.may_be_run.ensures.table)) c.is_proved.ensures.stays in
     let there = (args-kept old s alias.args stays.grows (alias-args old.trees alias c.requires.alias)).0 in
     subst (λ (y : Context). IsArgs y.trees c.trait_predicate-predicate.result.trait_ref.args) (sym c.cx-3.ensures) (subst (λ (q : TraitPredicate). IsArgs s.trees q.trait_ref.args) (sym is) there)
 
 pub returns-in_err-refuses_instances-clause-stays : goal.returns-in_err-refuses_instances-clause-stays
-returns-in_err-refuses_instances-clause-stays c = stays-trans (stays-trans c.verdict_here.ensures.stays c.may_be_run.ensures.stays) c.is_proved.ensures.stays
+returns-in_err-refuses_instances-clause-stays c = stays-trans (stays-trans c.verdict_here.ensures.stays (stays-same c.may_be_run.ensures.stays c.may_be_run.ensures.table)) c.is_proved.ensures.stays
 
 pub returns-in_err-refuses_instances-clause-cause : goal.returns-in_err-refuses_instances-clause-cause
 returns-in_err-refuses_instances-clause-cause c =
-    let later = later-table (stays-trans (stays-trans c.verdict_here.ensures.stays c.may_be_run.ensures.stays) c.is_proved.ensures.stays) in
+    let later = later-steps (stays-trans (stays-trans c.verdict_here.ensures.stays (stays-same c.may_be_run.ensures.stays c.may_be_run.ensures.table)) c.is_proved.ensures.stays) in
     passed-on (IsOverlapStop c.args.rounds.now c.is_proved.new.rounds) c.from_residual-in_err-refuses_instances.result c.in_err-refuses_instances.field-0.0 c.from_residual-in_err-refuses_instances.ensures.1
     (asking-stop later (memory-somehow c.in_err-refuses_instances.ensures.cause))
 
 pub returns-then-not-branch-3-clause-stays : goal.returns-then-not-branch-3-clause-stays
-returns-then-not-branch-3-clause-stays c = stays-trans (stays-trans c.verdict_here.ensures.stays c.may_be_run.ensures.stays) c.is_proved.ensures.stays
+returns-then-not-branch-3-clause-stays c = stays-trans (stays-trans c.verdict_here.ensures.stays (stays-same c.may_be_run.ensures.stays c.may_be_run.ensures.table)) c.is_proved.ensures.stays
 
 pub normalize-requires-clause-projection : goal.normalize-requires-clause-projection
 normalize-requires-clause-projection c =
@@ -88,7 +89,7 @@ normalize-requires-clause-projection c =
     let alias = c.args.alias in
     let p = c.trait_predicate-predicate.result in
     let is : p ≡ trait_predicate old alias = c.trait_predicate-predicate.ensures ∙ ap (λ (y : Context). trait_predicate y alias) c.cx-2.ensures in
-    let grows = (stays-trans (stays-trans c.verdict_here.ensures.stays c.may_be_run.ensures.stays) c.is_proved.ensures.stays).grows in
+    let grows = (stays-trans (stays-trans c.verdict_here.ensures.stays (stays-same c.may_be_run.ensures.stays c.may_be_run.ensures.table)) c.is_proved.ensures.stays).grows in
     let takes : Takes (world old) (kind_tree old.trees (K.Alias alias))
     = subst (λ (y : Context). Takes (world y) (kind_tree y.trees (K.Alias alias))) c.cx.ensures (c.args_fit.ensures.0 c.if-not-args_fit.false) in
     projection-later old now c.args.env alias p grows c.requires.alias c.requires.projection takes is
@@ -102,12 +103,12 @@ normalize-requires-clause-asked c =
     let alias = c.args.alias in
     let p = c.trait_predicate-predicate.result in
     let is : p ≡ trait_predicate old alias = c.trait_predicate-predicate.ensures ∙ ap (λ (y : Context). trait_predicate y alias) c.cx-2.ensures in
-    let grows = (stays-trans (stays-trans c.verdict_here.ensures.stays c.may_be_run.ensures.stays) c.is_proved.ensures.stays).grows in
+    let grows = (stays-trans (stays-trans c.verdict_here.ensures.stays (stays-same c.may_be_run.ensures.stays c.may_be_run.ensures.table)) c.is_proved.ensures.stays).grows in
     let key = trait-key-later r s old c.args.env alias p c.is_proved.ensures.stays grows is c.may_be_run.ensures.goal in
     subst (λ (k : Key). may_be_asked k ≡ true) key (sym c.in_ok-may_be_run.ensures.is ∙ c.if-not-branch.false)
 
 pub returns-clause-stays : goal.returns-clause-stays
-returns-clause-stays c = stays-trans (stays-trans (stays-trans c.verdict_here.ensures.stays c.may_be_run.ensures.stays) c.is_proved.ensures.stays) c.normalize.ensures.stays
+returns-clause-stays c = stays-trans (stays-trans (stays-trans c.verdict_here.ensures.stays (stays-same c.may_be_run.ensures.stays c.may_be_run.ensures.table)) c.is_proved.ensures.stays) (stays-by c.normalize.ensures.stays (comes-normalized c.args.effort c.normalize.ensures.normalized))
 
 pub returns-clause-projection : goal.returns-clause-projection
 returns-clause-projection c =
@@ -117,7 +118,7 @@ returns-clause-projection c =
     let alias = c.args.alias in
     let p = c.trait_predicate-predicate.result in
     let is : p ≡ trait_predicate old alias = c.trait_predicate-predicate.ensures ∙ ap (λ (y : Context). trait_predicate y alias) c.cx-2.ensures in
-    let grows = (stays-trans (stays-trans c.verdict_here.ensures.stays c.may_be_run.ensures.stays) c.is_proved.ensures.stays).grows in
+    let grows = (stays-trans (stays-trans c.verdict_here.ensures.stays (stays-same c.may_be_run.ensures.stays c.may_be_run.ensures.table)) c.is_proved.ensures.stays).grows in
     let takes : Takes (world old) (kind_tree old.trees (K.Alias alias))
     = subst (λ (y : Context). Takes (world y) (kind_tree y.trees (K.Alias alias))) c.cx.ensures (c.args_fit.ensures.0 c.if-not-args_fit.false) in
     let projection = projection-later old now c.args.env alias p grows c.requires.alias c.requires.projection takes is
@@ -132,7 +133,7 @@ returns-clause-comes c =
     let alias = c.args.alias in
     let p = c.trait_predicate-predicate.result in
     let is : p ≡ trait_predicate old.context alias = c.trait_predicate-predicate.ensures ∙ ap (λ (y : Context). trait_predicate y alias) c.cx-2.ensures in
-    let stays = stays-trans (stays-trans c.verdict_here.ensures.stays c.may_be_run.ensures.stays) c.is_proved.ensures.stays in
+    let stays = stays-trans (stays-trans c.verdict_here.ensures.stays (stays-same c.may_be_run.ensures.stays c.may_be_run.ensures.table)) c.is_proved.ensures.stays in
     let key = trait-key-later r s old.context c.args.env alias p c.is_proved.ensures.stays stays.grows is c.may_be_run.ensures.goal in
     let never
     = subst (λ (y : Context). HaveVariable (args_forest y.trees p.trait_ref.args) → RestsOnPart y p.trait_ref.def_id → ⊥) c.cx-3.ensures (c.in_ok-refuses_instances.ensures.instances c.if-not-branch-3.false) in
@@ -141,5 +142,5 @@ returns-clause-comes c =
 
 pub returns-clause-cause : goal.returns-clause-cause
 returns-clause-cause c =
-    let stays = stays-trans (stays-trans c.verdict_here.ensures.stays c.may_be_run.ensures.stays) c.is_proved.ensures.stays in
-    normalizing-stop c.args.rounds.now c.is_proved.new.rounds c.normalize.new.self c.args.env c.args.alias c.args.effort c.normalize.result (later-table stays) c.normalize.ensures.normalized
+    let stays = stays-trans (stays-trans c.verdict_here.ensures.stays (stays-same c.may_be_run.ensures.stays c.may_be_run.ensures.table)) c.is_proved.ensures.stays in
+    normalizing-stop c.args.rounds.now c.is_proved.new.rounds c.normalize.new.self c.args.env c.args.alias c.args.effort c.normalize.result (later-steps stays) c.normalize.ensures.normalized

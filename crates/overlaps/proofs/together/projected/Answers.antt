@@ -3,7 +3,7 @@ use Rattle.candidate_assembly.proofs.Calls.Causes.{so-err}
 use Rattle.overlaps.proofs.JointNormals.{projected-as}
 use Rattle.overlaps.proofs.Negated.{some-holds}
 use Rattle.overlaps.proofs.Staying.{known-beside, known-then}
-use Rattle.overlaps.proofs.Stopping.{later-table, stop-later}
+use Rattle.overlaps.proofs.Stopping.{later-steps, stop-later}
 use Rattle.overlaps.specs.Together.{CameOf}
 use Rattle.overlaps.proofs.together.projected.Goals as goal
 
@@ -19,4 +19,4 @@ returns-in-Some-clause-is c =
     (projected-as old mid c.give_sure.new.rounds c.args.env c.args.alias c.in-Some.response c.normal.ensures.stays c.requires.env c.requires.alias came) c.give_sure.ensures.is
 
 pub returns-in-Some-clause-cause : goal.returns-in-Some-clause-cause
-returns-in-Some-clause-cause c = so-err c.give_sure.result (λ s k. stop-later (later-table c.normal.ensures.stays) k) c.give_sure.ensures.cause
+returns-in-Some-clause-cause c = so-err c.give_sure.result (λ s k. stop-later (later-steps c.normal.ensures.stays) k) c.give_sure.ensures.cause

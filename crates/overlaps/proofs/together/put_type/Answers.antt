@@ -16,6 +16,7 @@ use Rattle.overlaps.proofs.Stopping.{asking-stop, later-kept, later-known, later
 use Rattle.overlaps.specs.Stopping.{IsOverlapStop}
 use Rattle.overlaps.specs.Together.{IsNormalAt, IsProjectedAs, no_type, pending_at}
 use Rattle.overlaps.specs.declared.together.ProjectionType.{ProjectionType}
+use Rattle.overlaps.proofs.Staying.{known-kept, known-made, known-then}
 use Rattle.overlaps.proofs.together.put_type.Goals as goal
 
 pub with_type_for-requires-clause-old : goal.with_type_for-requires-clause-old
@@ -79,3 +80,15 @@ returns-in_ok-leave_pending-in-Type-clause-tried c =
     put-left c.args.rounds.now c.projected.new.rounds c.args.goal c.args.projection.0 c.args.projection.1 c.projected.ensures.stays c.requires.fit c.requires.projection c.with_type_for.new.make c.in-Type.ty
     c.in_ok-predicate-in-Type.predicate c.args.left.now.items c.push.new.self.items c.with_type_for.ensures.grows c.with_type_for.ensures.rest p c.in_ok-predicate-in-Type.ensures.sort c.in_ok-predicate-in-Type.ensures.tree
     c.requires.left items c.leave_pending.new.rounds c.leave_pending.new.left.items (later-kept c.leave_pending.ensures.kept) c.requires.stands left.aside left.fit left.left
+
+pub returns-in_err-predicate-in-Type-clause-stays : goal.returns-in_err-predicate-in-Type-clause-stays
+returns-in_err-predicate-in-Type-clause-stays c = known-then c.projected.ensures.stays (known-made c.with_type_for.ensures.grows c.with_type_for.ensures.rest)
+
+pub returns-in_err-push-in-Type-clause-stays : goal.returns-in_err-push-in-Type-clause-stays
+returns-in_err-push-in-Type-clause-stays c = known-then c.projected.ensures.stays (known-made c.with_type_for.ensures.grows c.with_type_for.ensures.rest)
+
+pub returns-in_err-leave_pending-in-Type-clause-stays : goal.returns-in_err-leave_pending-in-Type-clause-stays
+returns-in_err-leave_pending-in-Type-clause-stays c = known-then (known-then c.projected.ensures.stays (known-made c.with_type_for.ensures.grows c.with_type_for.ensures.rest)) (known-kept c.leave_pending.ensures.kept)
+
+pub returns-in_ok-leave_pending-in-Type-clause-stays : goal.returns-in_ok-leave_pending-in-Type-clause-stays
+returns-in_ok-leave_pending-in-Type-clause-stays c = known-then (known-then c.projected.ensures.stays (known-made c.with_type_for.ensures.grows c.with_type_for.ensures.rest)) (known-kept c.leave_pending.ensures.kept)
