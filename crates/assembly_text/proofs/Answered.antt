@@ -13,6 +13,7 @@ use Rattle.ir_trees.specs.Syntax.Words.{IsArgs}
 use Rattle.candidate_eval.specs.declared.coherence.Conflict.{Conflict}
 use Rattle.candidate_eval.specs.declared.coherence.Conflict.TheVariants as C
 use Rattle.candidate_eval.specs.declared.coherence.OrphanStop.TheVariants as O
+use Rattle.candidate_eval.specs.declared.eval.mode.TypingMode.{TypingMode}
 use Rattle.candidate_eval.specs.Interface.Evaluators.{alias_trees}
 use Rattle.candidate_eval.specs.Judges.Modes.{is_coherence}
 use Rattle.candidate_eval.specs.Judges.States.{State}
@@ -33,7 +34,7 @@ use Rattle.assembly_notation.specs.declared.given.Given.{Given}
 use Rattle.assembly_text.specs.Asking.{AddsSomeKnown}
 use Rattle.assembly_text.specs.Overlapping.{IsOverlapAnyway, IsOverlapSolved, IsPrintable}
 use Rattle.assembly_text.specs.Printing.{known_text}
-use Rattle.assembly_text.specs.Solving.{ComesBefore, IsNewFor, IsOpenFor, IsSolvedBefore, fixed_for}
+use Rattle.assembly_text.specs.Solving.{ComesBefore, IsNewFor, IsOpenFor, IsSolvedBefore, fixed_for, nothing_known}
 use Rattle.candidate_rounds.specs.declared.rounds.effort.Effort.{Effort}
 
 pub on-answer : {A E : Type 0} {P Q : A → Type 0} (r : Result A E) → ((x : A) → P x → Q x) → IfOk r P → IfOk r Q
@@ -44,19 +45,21 @@ pub each-answer : {A E : Type 0} {Q : A → Type 0} (r : Result A E) → ((x : A
 each-answer (Ok x) f = f x refl
 each-answer (Err e) f = tt
 
--- with these pairs listed, and other aliases open or rigid
-abbrev pub fixed_with : Bool → Context → Given → Fixed
-fixed_with b c g = record (fixed_for c g) { listing = record { pairs = (fixed_for c g).listing.pairs; is_open = b } }
+-- in that mode, with these pairs listed, and other aliases open or rigid
+abbrev pub fixed_with : Bool → TypingMode → Context → Given → Fixed
+fixed_with b m c g = record (fixed_for c g) { mode = m; listing = record { pairs = (fixed_for c g).listing.pairs; is_open = b } }
 
-pub fixed-new : (b : Bool) (c : Context) (g : Given) (r : Evaluator) (ps : List (Ty × Ty)) (os : List AliasTy) → r.context ≡ c → r.normal ≡ record { pairs = ps; is_open = b }
-    → listing_of c.trees ps ≡ well_listed (listing_of c.trees g.normal_forms.items) → r.opaques ≡ os → os ≡ [] → r.goals.table ≡ [] → fixed r ≡ fixed_with b c g
-fixed-new b c g r ps os e n l o none t =
-    let listed : listing_by r.context.trees r.normal ≡ (fixed_with b c g).listing =
+pub fixed-new : (b : Bool) (m : TypingMode) (c : Context) (g : Given) (r : Evaluator) (ps : List (Ty × Ty)) (os : List AliasTy) → r.context ≡ c → r.normal ≡ record { pairs = ps; is_open = b }
+    → listing_of c.trees ps ≡ well_listed (listing_of c.trees g.normal_forms.items) → r.opaques ≡ os → os ≡ [] → r.goals.table ≡ []
+    → state r ≡ nothing_known m → fixed r ≡ fixed_with b m c g
+fixed-new b m c g r ps os e n l o none t s =
+    let listed : listing_by r.context.trees r.normal ≡ (fixed_with b m c g).listing =
     ap (listing_by r.context.trees) n ∙ (ap (λ (d : Context). let x : Listing = record { pairs = pairs_of d.trees ps; is_open = b } in x) e ∙ ap (λ (y : Listing). let x : Listing = record { pairs = y.pairs; is_open = b } in x) l) in
     let hidden : alias_trees r.context.trees r.opaques ≡ [] = ap (alias_trees r.context.trees) (o ∙ none) in
     let read : table_seen r.context.trees r.goals.table ≡ [] = ap (table_seen r.context.trees) t in
     let noted : notes_of r ≡ [] = ap (map (λ (x : GoalEntry). x.1.leaks)) t in
-    λ i. record { world = world (e i); local_crate = (e i).local.0; limits = (e i).limits; listing = listed i; opaques = hidden i; table = read i; notes = noted i }
+    let asked : r.mode ≡ m = ap (λ (S : State). S.mode) s in
+    λ i. record { world = world (e i); local_crate = (e i).local.0; limits = (e i).limits; mode = asked i; listing = listed i; opaques = hidden i; table = read i; notes = noted i }
 
 -- What a goal came to in an evaluator that is new for what is given it comes to by that, also where the evaluator has gone on since.
 pub solved-before : (c : Context) (g : Given) (p : TraitPredicate) (effort : Effort) (r last : Evaluator) (d : Context) (v : Option Verdict) → IsNewFor c g r → d ≡ last.context

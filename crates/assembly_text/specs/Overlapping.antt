@@ -10,7 +10,6 @@ use Rattle.assembly_notation.specs.Spelling.{AddsNamed}
 use Rattle.ir_trees.specs.Syntax.Words.{IsArgs}
 use Rattle.candidate_rounds.specs.Evaluators.Interface.{fixed}
 use Rattle.candidate_rounds.specs.Evaluators.Known.{Evaluator, state, table_of}
-use Rattle.candidate_rounds.specs.Table.Running.{StaysBesideTable}
 use Rattle.overlaps.specs.declared.allowance.Allowance.{Allowance}
 use Rattle.overlaps.specs.declared.allowance.Allowance.TheVariants as A
 use Rattle.overlaps.specs.declared.instance.CommonInstance.{CommonInstance}
@@ -20,6 +19,7 @@ use Rattle.overlaps.specs.declared.overlap.WhereClause.{WhereClause}
 use Rattle.overlaps.specs.Allowed.{allowance_of}
 use Rattle.overlaps.specs.Asked.{ClausesBeforeWereAsked, ClausesWereAsked, OfClause, WhereMay}
 use Rattle.overlaps.specs.Found.{IsNotAllowed, IsOverlap}
+use Rattle.overlaps.specs.Refused.{StaysBesideSteps}
 use Rattle.overlaps.specs.Stopping.{IsOverlapStop}
 use Rattle.assembly_notation.specs.declared.given.Given.{Given}
 use Rattle.assembly_text.specs.Solving.{IsOpenFor, fixed_openly, nothing_known}
@@ -35,7 +35,7 @@ pub record IsOverlapSolved (c : Context) (g : Given) (a b : ImplId) (effort : Ef
   pub context : first.context ≡ c
   pub fixed_is : fixed first ≡ fixed_openly c g
   pub state_is : state first ≡ nothing_known g.mode
-  pub stays : StaysBesideTable first left
+  pub stays : StaysBesideSteps first left
   pub is : IsOverlap first left a b o
   pub allowed : (w : Allowance) → allowance_of first.context a b ≡ Some w → o ≡ O.Allowed w
   pub asked : WhereMay (ClausesWereAsked first effort (table_of left) a b) o
@@ -47,7 +47,7 @@ pub record IsOverlapAnyway (c : Context) (g : Given) (a b : ImplId) (effort : Ef
   pub first : Evaluator
   pub left : Evaluator
   pub new : IsOpenFor c g first
-  pub stays : StaysBesideTable first left
+  pub stays : StaysBesideSteps first left
   pub is : IsOverlap first left a b o
   pub decided : IsNotAllowed o
   pub asked : WhereMay (ClausesWereAsked first effort (table_of left) a b) o

@@ -58,13 +58,14 @@ roots_for f = if holds is_unsolved f then 256 else 0
 abbrev pub nothing_known : TypingMode → State
 nothing_known m = fresh_state m 0 []
 
--- What an evaluator answers by that has the context's declarations and the normal forms that are given, of which it takes those that may
--- be listed; no opaque types that may be hidden, and an empty table.
+-- What an evaluator answers by that has the context's declarations, and the mode and the normal forms that are given, of which it takes those that
+-- may be listed; no opaque types that may be hidden, and an empty table.
 abbrev pub fixed_for : Context → Given → Fixed
 fixed_for c g = record {
   world = world c;
   local_crate = c.local.0;
   limits = c.limits;
+  mode = g.mode;
   listing = well_listed (listing_of c.trees g.normal_forms.items);
   opaques = [];
   table = [];

@@ -11,7 +11,6 @@ use Rattle.ir_trees.specs.Syntax.Words.{IsArgs}
 use Rattle.candidate_eval.specs.declared.eval.mode.TypingMode.TheVariants.{PostAnalysis}
 use Rattle.candidate_rounds.specs.Evaluators.Interface.{fixed}
 use Rattle.candidate_rounds.specs.Evaluators.Known.{Evaluator, state, sure_of}
-use Rattle.candidate_rounds.specs.Table.Running.{StaysBesideTable}
 use Rattle.overlaps.specs.declared.allowance.Allowance.TheVariants as A
 use Rattle.overlaps.specs.declared.instance.CommonInstance.{CommonInstance}
 use Rattle.overlaps.specs.declared.overlap.Overlap.{Overlap}
@@ -21,6 +20,7 @@ use Rattle.overlaps.specs.declared.specializing.Specialization.TheVariants as an
 use Rattle.overlaps.specs.declared.overlap.WhereClause.{WhereClause}
 use Rattle.overlaps.specs.Allowed.{lists}
 use Rattle.overlaps.specs.Negated.{IsKeptApart}
+use Rattle.overlaps.specs.Refused.{StaysBesideSteps}
 use Rattle.overlaps.specs.Specialized.{IsSpecialization}
 use Rattle.overlaps.specs.Stopping.{IsOverlapStop}
 use Rattle.assembly_notation.specs.declared.given.Given.{Given}
@@ -34,7 +34,7 @@ use Rattle.candidate_rounds.specs.declared.rounds.effort.Effort.{Effort}
 -- A new evaluator over the context: it answers by what is given, knows nothing yet, and asks goals outside coherence, whatever the given mode is.
 pub record IsTesterFor (c : Context) (g : Given) (r : Evaluator) : Type 0 where
   pub context : r.context ≡ c
-  pub fixed_is : fixed r ≡ fixed_for c g
+  pub fixed_is : fixed r ≡ record (fixed_for c g) { mode = PostAnalysis }
   pub state_is : state r ≡ nothing_known PostAnalysis
 
 -- What such an evaluator says of whether the first impl specialises the second one, and the evaluator that is left.
@@ -42,7 +42,7 @@ pub record IsTested (c : Context) (g : Given) (a b : ImplId) (last : Context) (o
   pub first : Evaluator
   pub left : Evaluator
   pub tester : IsTesterFor c g first
-  pub stays : StaysBesideTable first left
+  pub stays : StaysBesideSteps first left
   pub is : IsSpecialization first left a b o
   pub leaves : left.context ≡ last
 
@@ -56,7 +56,7 @@ pub record IsNegationAnswered (c : Context) (g : Given) (a b : ImplId) (last : C
   pub first : Evaluator
   pub left : Evaluator
   pub tester : IsTesterFor c g first
-  pub stays : StaysBesideTable first left
+  pub stays : StaysBesideSteps first left
   pub is : IfSome o (IsKeptApart first (sure_of left) a b)
   pub leaves : left.context ≡ last
 

@@ -4,7 +4,7 @@ use Rattle.ir_trees.specs.declared.decl.contents.ImplId.{ImplId}
 use Rattle.ir_trees.specs.Declarations.Context.{Context, Grows}
 use Rattle.candidate_eval.specs.Judges.Modes.{is_coherence}
 use Rattle.candidate_rounds.specs.Evaluators.Known.{Evaluator}
-use Rattle.candidate_rounds.specs.Table.Running.{StaysBesideTable}
+use Rattle.overlaps.specs.Refused.{StaysBesideSteps}
 use Rattle.overlaps.specs.Together.{ClausesKeepApart}
 use Rattle.assembly_notation.specs.declared.given.Given.{Given}
 use Rattle.assembly_text.specs.Solving.{IsOpenFor}
@@ -15,7 +15,7 @@ pub record IsApartAnswered (c : Context) (g : Given) (a b : ImplId) (last : Cont
   pub first : Evaluator
   pub left : Evaluator
   pub new : IsOpenFor c g first
-  pub stays : StaysBesideTable first left
+  pub stays : StaysBesideSteps first left
   pub is : o ≡ true → ClausesKeepApart first a b
   pub in_coherence : o ≡ true → is_coherence g.mode ≡ true
   pub leaves : left.context ≡ last

@@ -8,6 +8,6 @@ returns-in-Ok-clause-made c =
     let made = c.new-rounds.ensures in
     record {
       context = made.context;
-      fixed_is = fixed-new false c.args.cx c.args.given.now c.new-rounds.result c.in-Ok.normal.items c.new-opaques.result.items made.context made.normal (search rules) made.opaques c.new-opaques.ensures.items (ap (λ (x : Goals). x.table) made.goals);
+      fixed_is = fixed-new false c.args.given.now.mode c.args.cx c.args.given.now c.new-rounds.result c.in-Ok.normal.items c.new-opaques.result.items made.context made.normal (search rules) made.opaques c.new-opaques.ensures.items (ap (λ (x : Goals). x.table) made.goals) made.state;
       state_is = made.state;
     }
