@@ -3,18 +3,20 @@ use Rattle.std.proofs.Common.{◌≡◌, ◌<◌, inl, inr, ℕ, zero, suc, arit
 use Rattle.std.specs.List.{Contains}
 use Rattle.std.proofs.lemmas.List.{get_or-map, map-append}
 use Rattle.std.proofs.lemmas.List.Elements.{Contains-append_cases, Contains-append_left, Contains-append_right, Contains-get_or, Contains-push_cases}
+use Rattle.ir_trees.specs.declared.ir.kinds.Clause.{Clause}
 use Rattle.ir_trees.specs.declared.ir.kinds.ProjectionPredicate.{ProjectionPredicate}
 use Rattle.ir_trees.specs.declared.ir.kinds.TraitId.{TraitId}
 use Rattle.ir_trees.specs.declared.ir.kinds.TraitPredicate.{TraitPredicate}
 use Rattle.ir_trees.specs.declared.ir.kinds.TyKind.{TyKind}
 use Rattle.ir_trees.specs.declared.ir.stop.Stop.{Stop}
 use Rattle.ir_trees.specs.Declarations.Context.{Context, Grows}
-use Rattle.ir_trees.specs.Syntax.Trees.{Forest, Tree, none, skip, tree}
+use Rattle.ir_trees.specs.Syntax.Trees.{Forest, Kind, Tree, none, skip, tree}
 use Rattle.ir_trees.specs.Syntax.Words.{args_forest, clause_tree, env_forest, kind_tree, ty_tree}
 use Rattle.ir_trees.specs.Unification.Substitutions.{alone}
 use Rattle.ir_trees.proofs.Growth.Kept.{grows-refl, grows-trans}
 use Rattle.candidate_eval.specs.Dynamic.ObjectRequirements.{arguments_of, trait_said}
-use Rattle.candidate_eval.specs.Interface.Evaluators.{accepted, pending_of, pendings_of}
+use Rattle.candidate_eval.specs.Derivations.Characterization.{bound_kinds}
+use Rattle.candidate_eval.specs.Interface.Evaluators.{accepted, pending_of, pendings_of, with_rigid}
 use Rattle.candidate_eval.specs.Judges.States.{Env, Pending, State, added, with_pending}
 use Rattle.candidate_eval.specs.declared.eval.certainty.Certainty.{Certainty}
 use Rattle.candidate_rounds.specs.Evaluators.Interface.{Fixed, fixed, judge_of}
@@ -30,9 +32,9 @@ use Rattle.overlaps.proofs.Stopping.{later-known, later-then}
 use Rattle.overlaps.specs.Apart.{aside}
 use Rattle.overlaps.specs.Goals.{WasRefused}
 use Rattle.overlaps.specs.PartTraits.{IsOfInstances, RestsOnPart, SpeaksOfNoPart, trait_spoken_of}
-use Rattle.overlaps.specs.Refused.{RefusesInstances, StaysBesideKnown, goal_alone}
+use Rattle.overlaps.specs.Refused.{ClauseWasRefused, RefusesInstances, StaysBesideKnown, goal_alone}
 use Rattle.overlaps.specs.Stopping.{IsLater}
-use Rattle.overlaps.specs.Together.{AreLeft, AreLeftOfAll, CannotHold, GoalIsRefused, IsNormalAt, IsNormalUnder, IsObligation, IsTried, Obligation, SaysOfProjection, StandsIn, below, beside, here, next_type, no_type, no_type_as_said, one_is_refused, one_is_settled, one_is_unsettled, one_with_values, other_type, pending_at, pendings_at, same_type, with_alone, with_its_type, with_type, with_values}
+use Rattle.overlaps.specs.Together.{AreLeft, AreLeftOfAll, CannotHold, GoalIsRefused, IsNormalAt, IsNormalUnder, IsObligation, IsTried, Obligation, RefusesEntered, SaysOfProjection, StandsIn, below, beside, entered, entered_clause, for_placeholders, here, next_type, no_type, no_type_as_said, one_is_refused, one_is_settled, one_is_unsettled, one_with_values, other_type, pending_at, pendings_at, same_type, with_alone, with_clause, with_its_type, with_type, with_values}
 
 -- each of the goals is among the others
 abbrev pub Among : List Pending → List Pending → Type 0
@@ -64,6 +66,9 @@ with-more qs s (one_is_refused p c h) = one_is_refused p (s p c) h
 with-more {S = S} {ps = ps} qs s (one_with_values p c h) =
     let v = with_values S p ∷ [] in
     one_with_values p (s p c) (with-more (v ++ qs) (among-after v ps qs s) h)
+with-more {S = S} {ps = ps} qs s (for_placeholders p c h) =
+    let v = with_clause p (entered_clause S p.goal.clause) ∷ [] in
+    for_placeholders p (s p c) (with-more (v ++ qs) (among-after v ps qs s) h)
 with-more qs s (one_is_unsettled p by c k l e) = one_is_unsettled p by (s p c) k l e
 with-more {ps = ps} qs s (one_is_settled p by x T c k l e h) = one_is_settled p by x T (s p c) k l e (with-more (T.pending ++ qs) (among-after T.pending ps qs s) h)
 with-more qs s (no_type p t c i n) = no_type p t (s p c) i n
@@ -114,6 +119,7 @@ speaks-earlier {r} {s} t l h = λ of is.
 pub cannot-earlier : {r s : Evaluator} → IsLater r s → {S : State} {ps : List Pending} → CannotHold s S ps → CannotHold r S ps
 cannot-earlier l (one_is_refused p c h) = one_is_refused p c (refused-earlier l h)
 cannot-earlier l (one_with_values p c h) = one_with_values p c (cannot-earlier l h)
+cannot-earlier l (for_placeholders p c h) = for_placeholders p c (cannot-earlier l h)
 cannot-earlier l (one_is_unsettled p by c i k e) = one_is_unsettled p by c (speaks-earlier p.goal.clause l i) (later-then l k) e
 cannot-earlier l (one_is_settled p by x T c i k e h) = one_is_settled p by x T c (speaks-earlier p.goal.clause l i) (later-then l k) e (cannot-earlier l h)
 cannot-earlier l (no_type p t c i n) = no_type p t c i (normal-earlier l n)
@@ -235,6 +241,51 @@ refused-tried old mid new g p l same k empty said fits h = λ ps there.
         of_instances = h.of_instances;
       };
     })
+
+rigid-quiet : (S : State) (ks : List Kind) → (with_rigid S ks).pending ≡ S.pending
+rigid-quiet S [] = refl
+rigid-quiet S (k ∷ ks) = refl
+
+-- What a goal says under its binder is refused for placeholders.
+pub entered-tried : (old new : Evaluator) (g : Obligation) → IsLater old new → env_forest old.context.trees g.1.param_env ≡ none → RefusesEntered old new (clause_tree old.context.trees g.1.predicate)
+    → (ps : List Pending) → Contains ps (pending_at old g) → CannotHold old (state old) ps
+entered-tried old new g l empty h = λ ps there.
+    let p = pending_at old g in
+    let q = with_clause p (entered_clause (state old) p.goal.clause) in
+    for_placeholders p there
+    (one_is_refused q (Contains-append_left (q ∷ []) ps q (0, omega arith, refl))
+    (record { no_env = empty; by = new; later = l; context = h.context; grows = h.earlier; refused = h.refused }))
+
+-- Nothing is pending where a binder was entered and nothing was.
+pub quiet-entered : (S T : State) (t : Tree) → T ≡ entered S t → S.pending ≡ [] → T.pending ≡ []
+quiet-entered S T t is quiet = ap (λ (U : State). U.pending) is ∙ (rigid-quiet S (bound_kinds t.children) ∙ quiet)
+
+-- A clause was refused once its binder was entered.
+pub entered-refused : (old mid new : Evaluator) (t : Tree) (x : Clause) (p : TraitPredicate) → Grows old.context mid.context → state mid ≡ entered (state old) t
+    → clause_tree mid.context.trees x ≡ entered_clause (state old) t → trait_said (clause_tree mid.context.trees x).head ≡ Some (p.trait_ref.def_id, p.polarity)
+    → arguments_of (clause_tree mid.context.trees x) ≡ args_forest mid.context.trees p.trait_ref.args → RefusesInstances mid new p → RefusesEntered old new t
+entered-refused old mid new t x p g stands is said fits h = record {
+  context = h.refuses.context;
+  earlier = grows-trans old.context mid.context h.refuses.context g h.refuses.earlier;
+  refused = record {
+    goal = goal_alone mid.context.trees p;
+    says = subst (λ (y : Tree). trait_said y.head ≡ Some (p.trait_ref.def_id, p.polarity)) is said;
+    arguments = sym fits ∙ ap arguments_of is;
+    no_environment = refl;
+    refused = subst (λ (S : State). WasRefused (judge_of (fixed new)) h.refuses.context S (goal_alone mid.context.trees p)) stands h.refuses.refused;
+    of_instances = h.of_instances;
+  };
+}
+
+-- The same where a probe has begun and ended.
+pub entered-probed : (old began ran new : Evaluator) (t : Tree) → began.context ≡ old.context → state began ≡ state old → fixed new ≡ fixed ran → RefusesEntered began ran t → RefusesEntered old new t
+entered-probed old began ran new t cx same f h =
+    let z = sym f in
+    record {
+      context = h.context;
+      earlier = subst (λ (c : Context). Grows c h.context) cx h.earlier;
+      refused = subst (λ (q : Fixed × State). ClauseWasRefused (judge_of q.0) h.context (entered q.1 t) (entered_clause q.1 t)) (λ i. (z i, same i)) h.refused;
+    }
 
 -- A goal alone is settled: it is refused, or what stays of it is left.
 

@@ -20,6 +20,7 @@ use Rattle.ir_trees.specs.Declarations.Context.{Context, Grows}
 use Rattle.ir_trees.specs.Declarations.Contents.{Impl}
 use Rattle.ir_trees.specs.Hierarchy.Supers.{after_first}
 use Rattle.ir_trees.specs.Instantiation.Folding.{substituted_tree}
+use Rattle.ir_trees.specs.Instantiation.Opening.{opened_clause}
 use Rattle.ir_trees.specs.Syntax.Trees.{Forest, none, tree, Tree}
 use Rattle.ir_trees.specs.Syntax.Words.{IsTy, KindFits, args_forest, clause_tree, env_forest, kind_tree, ty_tree}
 use Rattle.ir_trees.specs.Unification.Substitutions.{alone}
@@ -27,7 +28,8 @@ use Rattle.candidate_eval.specs.declared.eval.certainty.Certainty.{Certainty}
 use Rattle.candidate_eval.specs.declared.eval.certainty.Certainty.TheVariants.{Yes}
 use Rattle.candidate_eval.specs.declared.eval.response.CanonicalResponse.{CanonicalResponse}
 use Rattle.candidate_eval.specs.declared.eval.variable.VariableKind.TheVariants.{Term}
-use Rattle.candidate_eval.specs.Interface.Evaluators.{HasTree, IsGoal, accepted, pending_of, pendings_of}
+use Rattle.candidate_eval.specs.Derivations.Characterization.{bound_kinds}
+use Rattle.candidate_eval.specs.Interface.Evaluators.{HasTree, IsGoal, accepted, pending_of, pendings_of, rigid, with_rigid}
 use Rattle.candidate_eval.specs.Judges.States.{Env, Pending, State, resolved_tree, variable, with_pending}
 use Rattle.candidate_eval.specs.Outcomes.ResponseTrees.{response_of}
 use Rattle.candidate_eval.specs.Outcomes.Responses.{Response}
@@ -81,6 +83,14 @@ with_type projection type p = with_clause p (with_type_for projection type p.goa
 abbrev pub with_alone : State → Pending → State
 with_alone S p = with_pending S (p ∷ [])
 
+-- a state with placeholders of a fresh universe for what a clause binds, and the clause with these in the place of that
+
+abbrev pub entered : State → Tree → State
+entered S c = with_rigid S (bound_kinds c.children)
+
+abbrev pub entered_clause : State → Tree → Tree
+entered_clause S c = opened_clause (rigid S (bound_kinds c.children)) c
+
 -- the variable that comes next where the state is left
 abbrev pub next_type : State → Tree
 next_type S = variable (Term General) (length S.variables)
@@ -94,6 +104,13 @@ pub record GoalIsRefused (r : Evaluator) (S : State) (p : Pending) : Type 0 wher
   pub context : Context
   pub grows : Grows r.context context
   pub refused : ClauseWasRefused (judge_of (fixed by)) context S p.goal.clause
+
+-- What the clause says under its binder was refused for placeholders in the place of what that binds, by the table that is left, as a context has it that
+-- comes after the first.
+pub record RefusesEntered (old new : Evaluator) (clause : Tree) : Type 0 where
+  pub context : Context
+  pub earlier : Grows old.context context
+  pub refused : ClauseWasRefused (judge_of (fixed new)) context (entered (state old) clause) (entered_clause (state old) clause)
 
 -- what is known once a response for a projection is given
 abbrev pub gives_at : Evaluator → ParamEnv → AliasTy → CanonicalResponse → Option State
@@ -140,6 +157,9 @@ pub data CannotHold (r : Evaluator) : State → List Pending → Type 0 where
   one_is_refused : {S : State} {ps : List Pending} (p : Pending) → Contains ps p → GoalIsRefused r S p → CannotHold r S ps
   -- they can't with one in which all values are put in
   one_with_values : {S : State} {ps : List Pending} (p : Pending) → Contains ps p → CannotHold r S (with_values S p ∷ ps) → CannotHold r S ps
+  -- they can't with what one says under its binder, for placeholders in the place of what that binds
+  for_placeholders : {S : State} {ps : List Pending} (p : Pending) → Contains ps p
+      → CannotHold r (entered S p.goal.clause) (with_clause p (entered_clause S p.goal.clause) ∷ ps) → CannotHold r S ps
   -- the judge of an evaluator that comes after refuses to settle one alone, which speaks of no trait that rests on a part of an auto trait's impls; or the
   -- others can't by what it gives, with what stays of it
   one_is_unsettled : {S : State} {ps : List Pending} (p : Pending) (by : Evaluator) → Contains ps p → SpeaksOfNoPart r.context p.goal.clause → IsLater r by

@@ -23,7 +23,7 @@ ghost use Rattle.rounds_judge.specs.Table.Keys.{key_at};
 ghost use Rattle.overlaps.specs.Apart.{OfDeclared, aside};
 ghost use Rattle.overlaps.specs.Refused.{AreOpen, IsOpen, RefusesInstances, StaysBesideKnown, StaysBesideSteps};
 ghost use Rattle.overlaps.specs.Stopping.{IsOverlapStop};
-ghost use Rattle.overlaps.specs.Together.{AreLeftOfAll, CameOf, CannotBothHold, CannotHold, ClausesKeepApart, HasYes, ImplsCannotHold, IsGivenAs, IsObligation, IsProjectedAs, IsProjectionType, IsTried, SaysOfProjection, StandsIn, goals_of_opened, pendings_at};
+ghost use Rattle.overlaps.specs.Together.{AreLeftOfAll, CameOf, CannotBothHold, CannotHold, ClausesKeepApart, HasYes, ImplsCannotHold, IsGivenAs, IsObligation, IsProjectedAs, IsProjectionType, IsTried, RefusesEntered, SaysOfProjection, StandsIn, goals_of_opened, pendings_at};
 ghost use Rattle.candidate_rounds.specs.Table.Efforts.{IsEffort};
 
 use crate::auto::{clause_may_rest_on_part, refuses_instances};
@@ -34,6 +34,7 @@ use crate::order::in_order;
 use crate::overlap::have_common_trait;
 use crate::plain::{is_in_coherence, make_equal};
 use candidate_assembly::assembly::opaques::with_type_for;
+use candidate_eval::eval::binders::enter_clause;
 use candidate_eval::eval::certainty::Certainty;
 use candidate_eval::eval::clauses::{predicate_in, substitute};
 use candidate_eval::eval::context::{EvalCtxt, ProbeKind};
@@ -475,6 +476,88 @@ fn try_trait(
     settle(alloc, rounds, goal, left)
 }
 
+/// Whether what a clause says of a trait under its binder is refused by that effort, for placeholders in the place of what it binds; then it can't hold for
+/// all that these stand for.
+fn is_refused_once_entered(
+    alloc: Global,
+    rounds: &mut Rounds,
+    env: ParamEnv,
+    clause: Clause,
+    effort: Effort,
+) -> Result<bool, Stop>
+    requires some { IsEffort effort }
+    requires env { IsParamEnv rounds.old.context.trees env }
+    requires empty { env_forest rounds.old.context.trees env ≡ none }
+    requires clause { IsClause rounds.old.context.trees clause }
+    requires pending { (state rounds.old).pending ≡ [] }
+    ensures stays { StaysBesideKnown rounds.old rounds.new }
+    ensures refused { let ts = rounds.old.context.trees in IfOk result (λ b. b ≡ true → RefusesEntered rounds.old rounds.new (clause_tree ts clause)) }
+    ensures cause { IfErr result (IsOverlapStop rounds.old rounds.new) }
+{
+    let clause = enter_clause(alloc, rounds, clause)?;
+    let Some(predicate) = predicate_in(rounds.cx(), clause) else {
+        return Ok(false);
+    };
+    is_predicate_refused(alloc, rounds, env, predicate, effort)
+}
+
+/// The same, asked in a probe, so that what is known stays.
+fn is_refused_under_binder(
+    alloc: Global,
+    rounds: &mut Rounds,
+    env: ParamEnv,
+    clause: Clause,
+    effort: Effort,
+) -> Result<bool, Stop>
+    requires some { IsEffort effort }
+    requires env { IsParamEnv rounds.old.context.trees env }
+    requires empty { env_forest rounds.old.context.trees env ≡ none }
+    requires clause { IsClause rounds.old.context.trees clause }
+    requires pending { (state rounds.old).pending ≡ [] }
+    ensures stays { StaysBesideSteps rounds.old rounds.new }
+    ensures refused { let ts = rounds.old.context.trees in IfOk result (λ b. b ≡ true → RefusesEntered rounds.old rounds.new (clause_tree ts clause)) }
+    ensures cause { IfErr result (IsOverlapStop rounds.old rounds.new) }
+{
+    let probe = rounds.begin_probe(ProbeKind::Kept)?;
+    let answer = is_refused_once_entered(alloc, rounds, env, clause, effort);
+    rounds.end_probe(probe);
+    answer
+}
+
+/// A goal whose clause binds something is left, unless what it says of a trait is refused.
+fn try_for_all(
+    alloc: Global,
+    rounds: &mut Rounds,
+    goal: Obligation,
+    effort: Effort,
+    left: &mut Vec<Obligation>,
+) -> Result<bool, Stop>
+    requires some { IsEffort effort }
+    requires fit { IsObligation rounds.old.context.trees goal }
+    requires empty { env_forest rounds.old.context.trees goal.1.param_env ≡ none }
+    requires left { Each (IsObligation rounds.old.context.trees) left.old.items }
+    requires pending { (state rounds.old).pending ≡ [] }
+    ensures stays { StaysBesideKnown rounds.old rounds.new }
+    ensures tried { IfOk result (IsTried rounds.old rounds.new goal left.old.items left.new.items) }
+    ensures cause { IfErr result (IsOverlapStop rounds.old rounds.new) }
+{
+    let Goal {
+        param_env,
+        predicate,
+    } = goal.1;
+    if is_refused_under_binder(alloc, rounds, param_env, predicate, effort)? {
+        return Ok(true);
+    }
+    keep(left, goal)
+}
+
+/// Whether the clause binds anything.
+fn binds(cx: &Cx, clause: Clause) -> bool
+    requires { IsClause cx.now.trees clause }
+{
+    !cx.vars(cx.clause(clause).vars).is_empty()
+}
+
 /// A goal in which all values are put in is taken up: a projection in it gets its type, or what it says is asked.
 fn try_with_values(
     alloc: Global,
@@ -498,6 +581,9 @@ fn try_with_values(
     }
     if let Some(said) = said_of_projection(rounds.cx(), clause) {
         return make_term_equal(alloc, rounds, goal, said, effort, left);
+    }
+    if binds(rounds.cx(), clause) {
+        return try_for_all(alloc, rounds, goal, effort, left);
     }
     match predicate_in(rounds.cx(), clause) {
         Some(predicate) => try_trait(alloc, rounds, goal, predicate, effort, left),
