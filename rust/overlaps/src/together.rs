@@ -12,6 +12,7 @@ use crate::order::in_order;
 use crate::overlap::have_common_trait;
 use crate::plain::{is_in_coherence, make_equal};
 use candidate_assembly::assembly::opaques::with_type_for;
+use candidate_eval::eval::binders::enter_clause;
 use candidate_eval::eval::certainty::Certainty;
 use candidate_eval::eval::clauses::{predicate_in, substitute};
 use candidate_eval::eval::context::{EvalCtxt, ProbeKind};
@@ -350,6 +351,63 @@ fn try_trait(
     settle(alloc, rounds, goal, left)
 }
 
+/// Whether what a clause says of a trait under its binder is refused by that effort, for placeholders in the place of what it binds; then it can't hold for
+/// all that these stand for.
+fn is_refused_once_entered(
+    alloc: Global,
+    rounds: &mut Rounds,
+    env: ParamEnv,
+    clause: Clause,
+    effort: Effort,
+) -> Result<bool, Stop>
+{
+    let clause = enter_clause(alloc, rounds, clause)?;
+    let Some(predicate) = predicate_in(rounds.cx(), clause) else {
+        return Ok(false);
+    };
+    is_predicate_refused(alloc, rounds, env, predicate, effort)
+}
+
+/// The same, asked in a probe, so that what is known stays.
+fn is_refused_under_binder(
+    alloc: Global,
+    rounds: &mut Rounds,
+    env: ParamEnv,
+    clause: Clause,
+    effort: Effort,
+) -> Result<bool, Stop>
+{
+    let probe = rounds.begin_probe(ProbeKind::Kept)?;
+    let answer = is_refused_once_entered(alloc, rounds, env, clause, effort);
+    rounds.end_probe(probe);
+    answer
+}
+
+/// A goal whose clause binds something is left, unless what it says of a trait is refused.
+fn try_for_all(
+    alloc: Global,
+    rounds: &mut Rounds,
+    goal: Obligation,
+    effort: Effort,
+    left: &mut Vec<Obligation>,
+) -> Result<bool, Stop>
+{
+    let Goal {
+        param_env,
+        predicate,
+    } = goal.1;
+    if is_refused_under_binder(alloc, rounds, param_env, predicate, effort)? {
+        return Ok(true);
+    }
+    keep(left, goal)
+}
+
+/// Whether the clause binds anything.
+fn binds(cx: &Cx, clause: Clause) -> bool
+{
+    !cx.vars(cx.clause(clause).vars).is_empty()
+}
+
 /// A goal in which all values are put in is taken up: a projection in it gets its type, or what it says is asked.
 fn try_with_values(
     alloc: Global,
@@ -365,6 +423,9 @@ fn try_with_values(
     }
     if let Some(said) = said_of_projection(rounds.cx(), clause) {
         return make_term_equal(alloc, rounds, goal, said, effort, left);
+    }
+    if binds(rounds.cx(), clause) {
+        return try_for_all(alloc, rounds, goal, effort, left);
     }
     match predicate_in(rounds.cx(), clause) {
         Some(predicate) => try_trait(alloc, rounds, goal, predicate, effort, left),
