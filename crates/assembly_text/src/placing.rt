@@ -100,6 +100,11 @@ pub fn place_of<'a>(alloc: Global, seed: u64, text: &'a [u8], bad: BadLine<'a>) 
     })
 }
 
+/// The lines of the text before the one of that number.
+pub fn lines_before(text: &[u8], number: u64) -> &[u8] {
+    &text[..start_of_part(text, Separator::LineFeed, number.saturating_sub(1))]
+}
+
 /// How many bytes of the line stand before what is at fault, where the fault says that.
 pub fn bytes_before(fault: Fault<'_>, line: &[u8]) -> Option<usize> {
     match fault {

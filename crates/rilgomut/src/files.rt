@@ -1,11 +1,16 @@
 //! Files, one after the other, as one text.
 
 use std::alloc::Global;
+use std::fmt::Display;
 use std::fs::{File, Files};
 use std::io;
 use std::io::Read;
 
-/// What is read of several files, one after the other. Where one ends, its last line does.
+/// The byte order mark in UTF-8, with which a file may begin.
+const MARK: [u8; 3] = [0xEF, 0xBB, 0xBF];
+
+/// What is read of several files, one after the other. Where one ends, its last line does. A mark at the beginning of each further one is
+/// passed over, where one read has it whole; that of the first is left.
 #[derive(Drop)]
 pub struct FilesInOrder<F: Read + Drop> {
     files: Vec<F>,
@@ -13,6 +18,8 @@ pub struct FilesInOrder<F: Read + Drop> {
     place: usize,
     /// Whether a line began that hasn't ended.
     is_in_line: bool,
+    /// Whether nothing was read of the file, which isn't the first one.
+    is_at_start: bool,
 }
 
 impl<F: Read + Drop> FilesInOrder<F> {
@@ -21,6 +28,7 @@ impl<F: Read + Drop> FilesInOrder<F> {
             files,
             place: 0,
             is_in_line: false,
+            is_at_start: false,
         }
     }
 
@@ -35,12 +43,18 @@ impl<F: Read + Drop> Read for FilesInOrder<F> {
             let Some(file) = self.files.get_mut(self.place) else {
                 return Ok(0);
             };
-            let count = file.read(buf)?;
+            let mut count = file.read(buf)?;
+            if self.is_at_start && count > MARK.len() && buf[..MARK.len()] == MARK {
+                buf.copy_within(MARK.len()..count, 0);
+                count = count - MARK.len();
+            }
+            self.is_at_start = false;
             if let Some(last) = buf[..count].last() {
                 self.is_in_line = *last != b'\n';
                 return Ok(count);
             }
             self.place = self.place.saturating_add(1);
+            self.is_at_start = true;
             if self.is_in_line {
                 self.is_in_line = false;
                 if let Some(first) = buf.first_mut() {
@@ -53,7 +67,7 @@ impl<F: Read + Drop> Read for FilesInOrder<F> {
     }
 }
 
-/// Opens the files of these names. The error names the first one that can't be opened, and says why.
+/// Opens the files of these names. The error names the first one that can't be opened, or is a directory, and says why.
 pub fn open_all<R: Files>(
     alloc: Global,
     system: &R,
@@ -61,6 +75,9 @@ pub fn open_all<R: Files>(
 ) -> Result<FilesInOrder<R::File>, String> {
     let mut files = Vec::new(alloc);
     for name in names {
+        if is_directory(system, name.as_str()) {
+            return Err(reason_of(alloc, name.as_str(), "is a directory"));
+        }
         match File::open(system, name.as_str()) {
             Ok(file) => {
                 if files.push(file).is_err() {
@@ -73,9 +90,17 @@ pub fn open_all<R: Files>(
     Ok(FilesInOrder::new(files))
 }
 
-/// Why the file of that name can't be opened; empty where memory is refused.
-fn reason_of(alloc: Global, name: &str, error: io::Error) -> String {
-    match format!(in alloc; "error: {name}: {error}") {
+/// Whether the name is known to be that of a directory.
+fn is_directory<R: Files>(system: &R, name: &str) -> bool {
+    match system.metadata(name) {
+        Ok(metadata) => metadata.is_dir(),
+        Err(_) => false,
+    }
+}
+
+/// Why the file of that name can't be read; empty where memory is refused.
+fn reason_of<D: Display>(alloc: Global, name: &str, reason: D) -> String {
+    match format!(in alloc; "error: {name}: {reason}") {
         Ok(reason) => reason,
         Err(_) => String::new(alloc),
     }

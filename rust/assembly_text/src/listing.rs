@@ -6,7 +6,7 @@ use kit::{eprintln, format, prelude::*, print, println, vec};
 use crate::commands::{Command, row_of};
 use crate::declaring::Declaring;
 use crate::lines::{Lines, declare};
-use crate::placing::{BadLine, Place, bytes_before, bytes_before_last, place_of};
+use crate::placing::{BadLine, Place, bytes_before, bytes_before_last, lines_before, place_of};
 use crate::saying::add_saying;
 use assembly_notation::faults::Fault;
 use assembly_notation::words::{Words, first_bad_byte, without_return};
@@ -26,17 +26,39 @@ struct Listing<'a> {
     /// How many bad lines there are, but for those that name what a bad line would have declared.
     count: u64,
     said: String,
+    behind: Behind,
+}
+
+/// Lines behind some that aren't in the text.
+#[derive(Clone, Copy, Debug)]
+struct Behind {
+    /// The number in the text of the first one.
+    first: u64,
+    /// How many lines aren't there.
+    left_out: u64,
+}
+
+impl Behind {
+    /// The line's number in the whole, where it has this one in the text.
+    fn number(self, number: u64) -> u64 {
+        if number < self.first {
+            number
+        } else {
+            number.saturating_add(self.left_out)
+        }
+    }
 }
 
 impl<'a> Listing<'a> {
-    /// Nothing that was read.
-    fn new(alloc: Global, seed: u64) -> Result<Self, Fault<'a>> {
+    /// Nothing that was read, of a text in which lines are left out.
+    fn new(alloc: Global, seed: u64, behind: Behind) -> Result<Self, Fault<'a>> {
         Ok(Listing {
             alloc,
             declaring: Declaring::with_seed(alloc, seed)?,
             missing: Vec::new(alloc),
             count: 0,
             said: String::new(alloc),
+            behind,
         })
     }
 
@@ -111,10 +133,11 @@ impl<'a> Listing<'a> {
 
     /// Says what is wrong there.
     fn say(&mut self, fault: Fault<'a>, place: Place<'a>) -> Result<(), AllocError> {
+        let number = self.behind.number(place.number);
         add_saying(
             self.alloc,
             fault,
-            place,
+            Place { number, ..place },
             self.declaring.names(),
             &mut self.said,
         )
@@ -148,7 +171,8 @@ fn new_name(line: &[u8]) -> Option<&str> {
 
 /// What is said of the bad line at which a run over the text ended, and of the other bad lines among the declarations.
 ///
-/// Where that can't be found or made, nothing is said. A bad line behind the declarations has a number that is greater by `further`.
+/// Where that can't be found or made, nothing is said. A bad line behind the declarations has a number that is greater by `further`. A declaration
+/// behind a query is bad for where it stands, whatever its words are.
 pub fn said_of<'a>(
     alloc: Global,
     seed: u64,
@@ -156,15 +180,21 @@ pub fn said_of<'a>(
     bad: BadLine<'a>,
     further: u64,
 ) -> Option<String> {
-    let mut listing = Listing::new(alloc, seed).ok()?;
-    let is_refused = matches!(bad.fault, Fault::Stop(Stop::Memory));
-    if !is_refused {
-        listing.read(text).ok()?;
+    let behind = Behind {
+        first: bad.number,
+        left_out: further,
+    };
+    let mut listing = Listing::new(alloc, seed, behind).ok()?;
+    match bad.fault {
+        Fault::Stop(Stop::Memory) => (),
+        Fault::LateDeclaration if further > 0 => {
+            listing.read(lines_before(text, bad.number)).ok()?;
+        }
+        _ => listing.read(text).ok()?,
     }
     if listing.count == 0 {
         let place = place_of(alloc, seed, text, bad)?;
-        let number = place.number.saturating_add(further);
-        listing.say(bad.fault, Place { number, ..place }).ok()?;
+        listing.say(bad.fault, place).ok()?;
     }
     Some(listing.said)
 }

@@ -922,4 +922,439 @@ impl 9 as_ref_string_bytes 0 + AsRef String [] u8
 impl 9 as_ref_box 1 + AsRef Box #0 #0
 impl 9 as_ref_rc 1 + AsRef Rc #0 #0
 impl 9 as_ref_arc 1 + AsRef Arc #0 #0
+
+// `Debug`, `Display` and `Error` of all types above. Of tuples those with three members at most are here, as below.
+impl 9 debug_manually_drop 1 + Debug ManuallyDrop #0
+iwhere debug_manually_drop Debug #0
+impl 9 debug_phantom_data 1 + Debug PhantomData #0
+impl 9 debug_cell 1 + Debug Cell #0
+iwhere debug_cell Sized #0
+iwhere debug_cell Copy #0
+iwhere debug_cell Debug #0
+impl 9 debug_unsafe_cell 1 + Debug UnsafeCell #0
+impl 9 debug_option 1 + Debug Option #0
+iwhere debug_option Sized #0
+iwhere debug_option Debug #0
+impl 9 debug_pin 1 + Debug Pin #0
+iwhere debug_pin Sized #0
+iwhere debug_pin Debug #0
+impl 9 debug_result 2 + Debug Result #0 #1
+iwhere debug_result Sized #0
+iwhere debug_result Sized #1
+iwhere debug_result Debug #0
+iwhere debug_result Debug #1
+impl 9 debug_array ct + Debug [#0] #1
+iwhere debug_array Sized #1
+iwhere debug_array Debug #1
+impl 9 debug_f32 0 + Debug f32
+impl 9 debug_f64 0 + Debug f64
+impl 9 debug_f16 0 + Debug f16
+impl 9 debug_f128 0 + Debug f128
+impl 9 debug_i8 0 + Debug i8
+impl 9 debug_i16 0 + Debug i16
+impl 9 debug_i32 0 + Debug i32
+impl 9 debug_i64 0 + Debug i64
+impl 9 debug_i128 0 + Debug i128
+impl 9 debug_isize 0 + Debug isize
+impl 9 debug_u8 0 + Debug u8
+impl 9 debug_u16 0 + Debug u16
+impl 9 debug_u32 0 + Debug u32
+impl 9 debug_u64 0 + Debug u64
+impl 9 debug_u128 0 + Debug u128
+impl 9 debug_usize 0 + Debug usize
+impl 9 debug_ref 1 + Debug & #0
+iwhere debug_ref Debug #0
+impl 9 debug_ref_mut 1 + Debug &mut #0
+iwhere debug_ref_mut Debug #0
+impl 9 debug_never 0 + Debug !
+impl 9 debug_bool 0 + Debug bool
+impl 9 debug_str 0 + Debug str
+impl 9 debug_char 0 + Debug char
+impl 9 debug_const 1 + Debug *const #0
+impl 9 debug_mut 1 + Debug *mut #0
+impl 9 debug_tuple_3 3 + Debug (3) #0 #1 #2
+iwhere debug_tuple_3 Sized #0
+iwhere debug_tuple_3 Sized #1
+iwhere debug_tuple_3 Sized #2
+iwhere debug_tuple_3 Debug #0
+iwhere debug_tuple_3 Debug #1
+iwhere debug_tuple_3 Debug #2
+impl 9 debug_tuple_2 2 + Debug (2) #0 #1
+iwhere debug_tuple_2 Sized #0
+iwhere debug_tuple_2 Sized #1
+iwhere debug_tuple_2 Debug #0
+iwhere debug_tuple_2 Debug #1
+impl 9 debug_tuple_1 1 + Debug (1) #0
+iwhere debug_tuple_1 Sized #0
+iwhere debug_tuple_1 Debug #0
+impl 9 debug_slice 1 + Debug [] #0
+iwhere debug_slice Sized #0
+iwhere debug_slice Debug #0
+impl 9 debug_unit 0 + Debug (0)
+impl 9 debug_box 1 + Debug Box #0
+iwhere debug_box Debug #0
+impl 9 debug_rc 1 + Debug Rc #0
+iwhere debug_rc Debug #0
+impl 9 debug_string 0 + Debug String
+impl 9 debug_arc 1 + Debug Arc #0
+iwhere debug_arc Debug #0
+impl 9 debug_vec 1 + Debug Vec #0
+iwhere debug_vec Sized #0
+iwhere debug_vec Debug #0
+impl 9 debug_vec_iter 1 + Debug vec::IntoIter #0
+iwhere debug_vec_iter Sized #0
+iwhere debug_vec_iter Debug #0
+impl 9 debug_slice_iter 1 + Debug slice::Iter #0
+iwhere debug_slice_iter Sized #0
+iwhere debug_slice_iter Debug #0
+impl 9 debug_slice_iter_mut 1 + Debug slice::IterMut #0
+iwhere debug_slice_iter_mut Sized #0
+iwhere debug_slice_iter_mut Debug #0
+impl 9 debug_array_iter tc + Debug array::IntoIter #0 #1
+iwhere debug_array_iter Sized #0
+iwhere debug_array_iter Debug #0
+impl 9 debug_any 0 + Debug dyn(1) Any
+impl 9 debug_send_any 0 + Debug dyn(2) Any Send
+impl 9 debug_sync_any 0 + Debug dyn(3) Any Send Sync
+impl 9 display_pin 1 + Display Pin #0
+iwhere display_pin Sized #0
+iwhere display_pin Display #0
+impl 9 display_f16 0 + Display f16
+impl 9 display_never 0 + Display !
+impl 9 display_rc 1 + Display Rc #0
+iwhere display_rc Display #0
+impl 9 display_arc 1 + Display Arc #0
+iwhere display_arc Display #0
+impl 9 error_never 0 + Error !
+impl 9 error_ref 1 + Error & #0
+iwhere error_ref Error #0
+impl 9 error_box 1 + Error Box #0
+iwhere error_box Sized #0
+iwhere error_box Error #0
+impl 9 error_arc 1 + Error Arc #0
+iwhere error_arc Error #0
+
+// What is made of what: numbers, texts, tuples and arrays, and what holds another type.
+impl 9 from_u8_bool 0 + From u8 bool
+impl 9 from_u16_bool 0 + From u16 bool
+impl 9 from_u32_bool 0 + From u32 bool
+impl 9 from_u64_bool 0 + From u64 bool
+impl 9 from_u128_bool 0 + From u128 bool
+impl 9 from_usize_bool 0 + From usize bool
+impl 9 from_i8_bool 0 + From i8 bool
+impl 9 from_i16_bool 0 + From i16 bool
+impl 9 from_i32_bool 0 + From i32 bool
+impl 9 from_i64_bool 0 + From i64 bool
+impl 9 from_i128_bool 0 + From i128 bool
+impl 9 from_isize_bool 0 + From isize bool
+impl 9 from_u16_u8 0 + From u16 u8
+impl 9 from_u32_u8 0 + From u32 u8
+impl 9 from_u64_u8 0 + From u64 u8
+impl 9 from_u128_u8 0 + From u128 u8
+impl 9 from_usize_u8 0 + From usize u8
+impl 9 from_u32_u16 0 + From u32 u16
+impl 9 from_u64_u16 0 + From u64 u16
+impl 9 from_u128_u16 0 + From u128 u16
+impl 9 from_u64_u32 0 + From u64 u32
+impl 9 from_u128_u32 0 + From u128 u32
+impl 9 from_u128_u64 0 + From u128 u64
+impl 9 from_i16_i8 0 + From i16 i8
+impl 9 from_i32_i8 0 + From i32 i8
+impl 9 from_i64_i8 0 + From i64 i8
+impl 9 from_i128_i8 0 + From i128 i8
+impl 9 from_isize_i8 0 + From isize i8
+impl 9 from_i32_i16 0 + From i32 i16
+impl 9 from_i64_i16 0 + From i64 i16
+impl 9 from_i128_i16 0 + From i128 i16
+impl 9 from_i64_i32 0 + From i64 i32
+impl 9 from_i128_i32 0 + From i128 i32
+impl 9 from_i128_i64 0 + From i128 i64
+impl 9 from_i16_u8 0 + From i16 u8
+impl 9 from_i32_u8 0 + From i32 u8
+impl 9 from_i64_u8 0 + From i64 u8
+impl 9 from_i128_u8 0 + From i128 u8
+impl 9 from_i32_u16 0 + From i32 u16
+impl 9 from_i64_u16 0 + From i64 u16
+impl 9 from_i128_u16 0 + From i128 u16
+impl 9 from_i64_u32 0 + From i64 u32
+impl 9 from_i128_u32 0 + From i128 u32
+impl 9 from_i128_u64 0 + From i128 u64
+impl 9 from_usize_u16 0 + From usize u16
+impl 9 from_isize_u8 0 + From isize u8
+impl 9 from_isize_i16 0 + From isize i16
+impl 9 from_f16_i8 0 + From f16 i8
+impl 9 from_f32_i8 0 + From f32 i8
+impl 9 from_f64_i8 0 + From f64 i8
+impl 9 from_f128_i8 0 + From f128 i8
+impl 9 from_f32_i16 0 + From f32 i16
+impl 9 from_f64_i16 0 + From f64 i16
+impl 9 from_f128_i16 0 + From f128 i16
+impl 9 from_f64_i32 0 + From f64 i32
+impl 9 from_f128_i32 0 + From f128 i32
+impl 9 from_f128_i64 0 + From f128 i64
+impl 9 from_f16_u8 0 + From f16 u8
+impl 9 from_f32_u8 0 + From f32 u8
+impl 9 from_f64_u8 0 + From f64 u8
+impl 9 from_f128_u8 0 + From f128 u8
+impl 9 from_f32_u16 0 + From f32 u16
+impl 9 from_f64_u16 0 + From f64 u16
+impl 9 from_f128_u16 0 + From f128 u16
+impl 9 from_f64_u32 0 + From f64 u32
+impl 9 from_f128_u32 0 + From f128 u32
+impl 9 from_f128_u64 0 + From f128 u64
+impl 9 from_f64_f16 0 + From f64 f16
+impl 9 from_f128_f16 0 + From f128 f16
+impl 9 from_f64_f32 0 + From f64 f32
+impl 9 from_f128_f32 0 + From f128 f32
+impl 9 from_f128_f64 0 + From f128 f64
+impl 9 from_f16_bool 0 + From f16 bool
+impl 9 from_f32_bool 0 + From f32 bool
+impl 9 from_f64_bool 0 + From f64 bool
+impl 9 from_f128_bool 0 + From f128 bool
+impl 9 from_cell 1 + From Cell #0 #0
+iwhere from_cell Sized #0
+impl 9 from_unsafe_cell 1 + From UnsafeCell #0 #0
+iwhere from_unsafe_cell Sized #0
+impl 9 from_u32_char 0 + From u32 char
+impl 9 from_u64_char 0 + From u64 char
+impl 9 from_u128_char 0 + From u128 char
+impl 9 from_char_u8 0 + From char u8
+impl 9 from_option_ref_ref_option 1 + From Option & #0 & Option #0
+iwhere from_option_ref_ref_option Sized #0
+impl 9 from_option_ref_mut_ref_mut_option 1 + From Option &mut #0 &mut Option #0
+iwhere from_option_ref_mut_ref_mut_option Sized #0
+impl 9 from_tuple_1_array_1 1 + From (1) #0 [1] #0
+iwhere from_tuple_1_array_1 Sized #0
+impl 9 from_array_1_tuple_1 1 + From [1] #0 (1) #0
+iwhere from_array_1_tuple_1 Sized #0
+impl 9 from_tuple_2_array_2 1 + From (2) #0 #0 [2] #0
+iwhere from_tuple_2_array_2 Sized #0
+impl 9 from_array_2_tuple_2 1 + From [2] #0 (2) #0 #0
+iwhere from_array_2_tuple_2 Sized #0
+impl 9 from_tuple_3_array_3 1 + From (3) #0 #0 #0 [3] #0
+iwhere from_tuple_3_array_3 Sized #0
+impl 9 from_array_3_tuple_3 1 + From [3] #0 (3) #0 #0 #0
+iwhere from_array_3_tuple_3 Sized #0
+impl 9 from_pin_box_box 1 + From Pin Box #0 Box #0
+impl 9 from_box_slice_ref_slice 1 + From Box [] #0 & [] #0
+iwhere from_box_slice_ref_slice Sized #0
+iwhere from_box_slice_ref_slice Clone #0
+impl 9 from_box_slice_ref_mut_slice 1 + From Box [] #0 &mut [] #0
+iwhere from_box_slice_ref_mut_slice Sized #0
+iwhere from_box_slice_ref_mut_slice Clone #0
+impl 9 from_box_str_ref_str 0 + From Box str & str
+impl 9 from_box_str_ref_mut_str 0 + From Box str &mut str
+impl 9 from_box_slice_u8_box_str 0 + From Box [] u8 Box str
+impl 9 from_box_slice_array tc + From Box [] #0 [#1] #0
+iwhere from_box_slice_array Sized #0
+impl 9 from_rc_box 1 + From Rc #0 Box #0
+impl 9 from_string_box_str 0 + From String Box str
+impl 9 from_box_str_string 0 + From Box str String
+impl 9 from_arc_box 1 + From Arc #0 Box #0
+impl 9 from_vec_box_slice 1 + From Vec #0 Box [] #0
+iwhere from_vec_box_slice Sized #0
+impl 9 from_box_slice_vec 1 + From Box [] #0 Vec #0
+iwhere from_box_slice_vec Sized #0
+impl 9 from_rc 1 + From Rc #0 #0
+iwhere from_rc Sized #0
+impl 9 from_rc_slice_array tc + From Rc [] #0 [#1] #0
+iwhere from_rc_slice_array Sized #0
+impl 9 from_rc_slice_ref_slice 1 + From Rc [] #0 & [] #0
+iwhere from_rc_slice_ref_slice Sized #0
+iwhere from_rc_slice_ref_slice Clone #0
+impl 9 from_rc_slice_ref_mut_slice 1 + From Rc [] #0 &mut [] #0
+iwhere from_rc_slice_ref_mut_slice Sized #0
+iwhere from_rc_slice_ref_mut_slice Clone #0
+impl 9 from_rc_str_ref_str 0 + From Rc str & str
+impl 9 from_rc_str_ref_mut_str 0 + From Rc str &mut str
+impl 9 from_rc_str_string 0 + From Rc str String
+impl 9 from_rc_slice_vec 1 + From Rc [] #0 Vec #0
+iwhere from_rc_slice_vec Sized #0
+impl 9 from_rc_slice_u8_rc_str 0 + From Rc [] u8 Rc str
+impl 9 from_string_ref_str 0 + From String & str
+impl 9 from_string_ref_mut_str 0 + From String &mut str
+impl 9 from_string_ref_string 0 + From String & String
+impl 9 from_vec_u8_string 0 + From Vec u8 String
+impl 9 from_string_char 0 + From String char
+impl 9 from_arc_str_string 0 + From Arc str String
+impl 9 from_arc 1 + From Arc #0 #0
+iwhere from_arc Sized #0
+impl 9 from_arc_slice_array tc + From Arc [] #0 [#1] #0
+iwhere from_arc_slice_array Sized #0
+impl 9 from_arc_slice_ref_slice 1 + From Arc [] #0 & [] #0
+iwhere from_arc_slice_ref_slice Sized #0
+iwhere from_arc_slice_ref_slice Clone #0
+impl 9 from_arc_slice_ref_mut_slice 1 + From Arc [] #0 &mut [] #0
+iwhere from_arc_slice_ref_mut_slice Sized #0
+iwhere from_arc_slice_ref_mut_slice Clone #0
+impl 9 from_arc_str_ref_str 0 + From Arc str & str
+impl 9 from_arc_str_ref_mut_str 0 + From Arc str &mut str
+impl 9 from_arc_slice_vec 1 + From Arc [] #0 Vec #0
+iwhere from_arc_slice_vec Sized #0
+impl 9 from_arc_slice_u8_arc_str 0 + From Arc [] u8 Arc str
+impl 9 from_vec_ref_slice 1 + From Vec #0 & [] #0
+iwhere from_vec_ref_slice Sized #0
+iwhere from_vec_ref_slice Clone #0
+impl 9 from_vec_ref_mut_slice 1 + From Vec #0 &mut [] #0
+iwhere from_vec_ref_mut_slice Sized #0
+iwhere from_vec_ref_mut_slice Clone #0
+impl 9 from_vec_ref_array tc + From Vec #0 & [#1] #0
+iwhere from_vec_ref_array Sized #0
+iwhere from_vec_ref_array Clone #0
+impl 9 from_vec_ref_mut_array tc + From Vec #0 &mut [#1] #0
+iwhere from_vec_ref_mut_array Sized #0
+iwhere from_vec_ref_mut_array Clone #0
+impl 9 from_vec_array tc + From Vec #0 [#1] #0
+iwhere from_vec_array Sized #0
+impl 9 from_vec_u8_ref_str 0 + From Vec u8 & str
+
+// Hashes, and what is made of what an iterator goes over.
+trait 9 Hash 0
+trait 9 FromIterator 1
+super FromIterator Sized #0
+impl 9 hash_manually_drop 1 + Hash ManuallyDrop #0
+iwhere hash_manually_drop Hash #0
+impl 9 hash_phantom_data 1 + Hash PhantomData #0
+impl 9 hash_option 1 + Hash Option #0
+iwhere hash_option Sized #0
+iwhere hash_option Hash #0
+impl 9 hash_pin 1 + Hash Pin #0
+iwhere hash_pin Sized #0
+iwhere hash_pin Deref #0
+iwhere hash_pin Hash Target #0
+impl 9 hash_result 2 + Hash Result #0 #1
+iwhere hash_result Sized #0
+iwhere hash_result Sized #1
+iwhere hash_result Hash #0
+iwhere hash_result Hash #1
+impl 9 hash_array ct + Hash [#0] #1
+iwhere hash_array Sized #1
+iwhere hash_array Hash #1
+impl 9 hash_u8 0 + Hash u8
+impl 9 hash_u16 0 + Hash u16
+impl 9 hash_u32 0 + Hash u32
+impl 9 hash_u64 0 + Hash u64
+impl 9 hash_usize 0 + Hash usize
+impl 9 hash_i8 0 + Hash i8
+impl 9 hash_i16 0 + Hash i16
+impl 9 hash_i32 0 + Hash i32
+impl 9 hash_i64 0 + Hash i64
+impl 9 hash_isize 0 + Hash isize
+impl 9 hash_u128 0 + Hash u128
+impl 9 hash_i128 0 + Hash i128
+impl 9 hash_bool 0 + Hash bool
+impl 9 hash_char 0 + Hash char
+impl 9 hash_str 0 + Hash str
+impl 9 hash_never 0 + Hash !
+impl 9 hash_unit 0 + Hash (0)
+impl 9 hash_tuple_1 1 + Hash (1) #0
+iwhere hash_tuple_1 Sized #0
+iwhere hash_tuple_1 Hash #0
+impl 9 hash_tuple_2 2 + Hash (2) #0 #1
+iwhere hash_tuple_2 Sized #0
+iwhere hash_tuple_2 Sized #1
+iwhere hash_tuple_2 Hash #0
+iwhere hash_tuple_2 Hash #1
+impl 9 hash_tuple_3 3 + Hash (3) #0 #1 #2
+iwhere hash_tuple_3 Sized #0
+iwhere hash_tuple_3 Sized #1
+iwhere hash_tuple_3 Sized #2
+iwhere hash_tuple_3 Hash #0
+iwhere hash_tuple_3 Hash #1
+iwhere hash_tuple_3 Hash #2
+impl 9 hash_slice 1 + Hash [] #0
+iwhere hash_slice Sized #0
+iwhere hash_slice Hash #0
+impl 9 hash_ref 1 + Hash & #0
+iwhere hash_ref Hash #0
+impl 9 hash_ref_mut 1 + Hash &mut #0
+iwhere hash_ref_mut Hash #0
+impl 9 hash_const 1 + Hash *const #0
+impl 9 hash_mut 1 + Hash *mut #0
+impl 9 hash_box 1 + Hash Box #0
+iwhere hash_box Hash #0
+impl 9 hash_rc 1 + Hash Rc #0
+iwhere hash_rc Hash #0
+impl 9 hash_string 0 + Hash String
+impl 9 hash_arc 1 + Hash Arc #0
+iwhere hash_arc Hash #0
+impl 9 hash_vec 1 + Hash Vec #0
+iwhere hash_vec Sized #0
+iwhere hash_vec Hash #0
+impl 9 from_iterator_option_option 2 + FromIterator Option #0 Option #1
+iwhere from_iterator_option_option Sized #1
+iwhere from_iterator_option_option Sized #0
+iwhere from_iterator_option_option FromIterator #0 #1
+impl 9 from_iterator_result_result 3 + FromIterator Result #0 #1 Result #2 #1
+iwhere from_iterator_result_result Sized #2
+iwhere from_iterator_result_result Sized #1
+iwhere from_iterator_result_result Sized #0
+iwhere from_iterator_result_result FromIterator #0 #2
+impl 9 from_iterator_unit_unit 0 + FromIterator (0) (0)
+impl 9 from_iterator_box_slice 1 + FromIterator Box [] #0 #0
+iwhere from_iterator_box_slice Sized #0
+impl 9 from_iterator_box_str_char 0 + FromIterator Box str char
+impl 9 from_iterator_box_str_ref_char 0 + FromIterator Box str & char
+impl 9 from_iterator_box_str_ref_str 0 + FromIterator Box str & str
+impl 9 from_iterator_box_str_string 0 + FromIterator Box str String
+impl 9 from_iterator_box_str_box_str 0 + FromIterator Box str Box str
+impl 9 from_iterator_string_box_str 0 + FromIterator String Box str
+impl 9 from_iterator_rc_slice 1 + FromIterator Rc [] #0 #0
+iwhere from_iterator_rc_slice Sized #0
+impl 9 from_iterator_string_char 0 + FromIterator String char
+impl 9 from_iterator_string_ref_char 0 + FromIterator String & char
+impl 9 from_iterator_string_ref_str 0 + FromIterator String & str
+impl 9 from_iterator_string_string 0 + FromIterator String String
+impl 9 from_iterator_arc_slice 1 + FromIterator Arc [] #0 #0
+iwhere from_iterator_arc_slice Sized #0
+impl 9 from_iterator_vec 1 + FromIterator Vec #0 #0
+iwhere from_iterator_vec Sized #0
+
+// What else std's impls say of boxes, cells, pins and raw pointers.
+impl 9 clone_box_slice 1 + Clone Box [] #0
+iwhere clone_box_slice Sized #0
+iwhere clone_box_slice Clone #0
+impl 9 clone_box_str 0 + Clone Box str
+impl 9 default_const 1 + Default *const #0
+impl 9 default_mut 1 + Default *mut #0
+impl 9 default_pin_box 1 + Default Pin Box #0
+iwhere default_pin_box Default Box #0
+impl 9 default_pin_rc 1 + Default Pin Rc #0
+iwhere default_pin_rc Default Rc #0
+impl 9 default_pin_arc 1 + Default Pin Arc #0
+iwhere default_pin_arc Default Arc #0
+impl 9 deref_mut_pin 1 + DerefMut Pin #0
+iwhere deref_mut_pin Sized #0
+iwhere deref_mut_pin DerefMut #0
+iwhere deref_mut_pin Unpin Target #0
+impl 9 partial_eq_pin_pin 2 + PartialEq Pin #0 Pin #1
+iwhere partial_eq_pin_pin Sized #0
+iwhere partial_eq_pin_pin Sized #1
+iwhere partial_eq_pin_pin Deref #0
+iwhere partial_eq_pin_pin Deref #1
+iwhere partial_eq_pin_pin PartialEq Target #0 Target #1
+impl 9 eq_pin 1 + Eq Pin #0
+iwhere eq_pin Sized #0
+iwhere eq_pin Deref #0
+iwhere eq_pin Eq Target #0
+impl 9 partial_ord_pin_pin 2 + PartialOrd Pin #0 Pin #1
+iwhere partial_ord_pin_pin Sized #0
+iwhere partial_ord_pin_pin Sized #1
+iwhere partial_ord_pin_pin Deref #0
+iwhere partial_ord_pin_pin Deref #1
+iwhere partial_ord_pin_pin PartialOrd Target #0 Target #1
+impl 9 ord_pin 1 + Ord Pin #0
+iwhere ord_pin Sized #0
+iwhere ord_pin Deref #0
+iwhere ord_pin Ord Target #0
+impl 9 unpin_const 1 + Unpin *const #0
+impl 9 unpin_mut 1 + Unpin *mut #0
+impl 9 unpin_rc 1 + Unpin Rc #0
+impl 9 unpin_arc 1 + Unpin Arc #0
+impl 9 as_ref_cell_array_array_cell ct + AsRef Cell [#0] #1 [#0] Cell #1
+iwhere as_ref_cell_array_array_cell Sized #1
+impl 9 as_ref_cell_array_slice_cell ct + AsRef Cell [#0] #1 [] Cell #1
+iwhere as_ref_cell_array_slice_cell Sized #1
+impl 9 as_ref_cell_slice_slice_cell 1 + AsRef Cell [] #0 [] Cell #0
+iwhere as_ref_cell_slice_slice_cell Sized #0
 ";

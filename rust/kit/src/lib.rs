@@ -71,6 +71,8 @@ pub mod fs {
         type File: io::Read;
 
         fn open_file(&self, path: &str) -> io::Result<Self::File>;
+
+        fn metadata(&self, path: &str) -> io::Result<std::fs::Metadata>;
     }
 
     impl Files for crate::runtime::HostRuntime {
@@ -78,6 +80,10 @@ pub mod fs {
 
         fn open_file(&self, path: &str) -> io::Result<std::fs::File> {
             std::fs::File::open(path)
+        }
+
+        fn metadata(&self, path: &str) -> io::Result<std::fs::Metadata> {
+            std::fs::metadata(path)
         }
     }
 
