@@ -59,14 +59,13 @@ def main(arguments: Optional[List[str]] = None) -> int:
     words.add_argument("--cache", metavar="FOLDER", default=os.path.expanduser("~/.cache/rilgomut"), help="where what is built is kept")
     options = words.parse_args(arguments)
     try:
-        missing = lacking(options.bin)
+        for line in lacking(options.bin):
+            print("missing: %s" % line, flush=True)
         command = install(os.path.abspath(options.into), os.path.abspath(options.bin), os.path.abspath(options.cache))
     except (StepFailed, OSError) as error:
         print("install: %s" % error, file=sys.stderr)
         return 2
     print("installed cargo-coherence %s as %s" % (VERSION, command))
-    for line in missing:
-        print("missing: %s" % line)
     return 0
 
 

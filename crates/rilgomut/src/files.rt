@@ -44,7 +44,7 @@ impl<F: Read + Drop> Read for FilesInOrder<F> {
                 return Ok(0);
             };
             let mut count = file.read(buf)?;
-            if self.is_at_start && count > MARK.len() && buf[..MARK.len()] == MARK {
+            if self.is_at_start && count > MARK.len() && buf.starts_with(&MARK) {
                 buf.copy_within(MARK.len()..count, 0);
                 count = count - MARK.len();
             }
@@ -99,7 +99,7 @@ fn is_directory<R: Files>(system: &R, name: &str) -> bool {
 }
 
 /// Why the file of that name can't be read; empty where memory is refused.
-fn reason_of<D: Display>(alloc: Global, name: &str, reason: D) -> String {
+fn reason_of<D: Display + Drop>(alloc: Global, name: &str, reason: D) -> String {
     match format!(in alloc; "error: {name}: {reason}") {
         Ok(reason) => reason,
         Err(_) => String::new(alloc),

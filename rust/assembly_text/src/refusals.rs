@@ -14,6 +14,7 @@ use candidate_eval::eval::clauses::{predicate_in, self_ty};
 use ir_context::decl::UnifyCount;
 use ir_context::decl::context::Cx;
 use ir_trees::decl::contents::{ImplId, ImplPolarity, LangItem};
+use ir_trees::ir::heads::Flag;
 use ir_trees::ir::kinds::{Args, Clause, PredicatePolarity, TraitId, TraitPredicate};
 use ir_trees::ir::stop::Stop;
 use ir_trees::ir::trees::Trees;
@@ -24,6 +25,8 @@ use ir_trees::ir::unify::RightSide;
 enum Refusal {
     /// An impl that may be for it says the opposite.
     OppositeImpl(ImplId),
+    /// An alias stands in it, by which an impl may be for it that says the opposite.
+    Alias,
     /// Impls may be for it, and none holds.
     NoImplHolds,
     /// The language knows the trait, and has no rule that holds, nor is there an impl.
@@ -127,7 +130,11 @@ fn refusal_of(cx: &Cx, goal: TraitPredicate) -> Result<Refusal, Stop>
     for number in 0..relevant.len() {
         if let Some(polarity) = polarity_for(cx, relevant[number], of.args) {
             if is_opposite(goal.polarity, polarity) {
-                return Ok(Refusal::OppositeImpl(relevant[number]));
+                return Ok(if cx.has(of.args, Flag::Alias) {
+                    Refusal::Alias
+                } else {
+                    Refusal::OppositeImpl(relevant[number])
+                });
             }
             has_impl = true;
         }
@@ -153,6 +160,7 @@ pub(crate) fn print_refusal(
     };
     let words = match refusal_of(&scope.maker, goal)? {
         Refusal::OppositeImpl(of) => return print_opposite(scope, goal.polarity, of, text),
+        Refusal::Alias => " because an alias isn't known",
         Refusal::NoImplHolds => " because no impl holds",
         Refusal::NoRule => " because no impl and no rule of the language holds",
         Refusal::NoImpl => " because no impl",
