@@ -14,7 +14,6 @@ where memory is refused, that ends the program, while the proved one answers a s
 """
 
 import argparse
-import codecs
 import glob
 import hashlib
 import os
@@ -255,13 +254,13 @@ def check_arguments(program):
 
 
 def check_files(program):
-    """Stops where the program beside this one reads two files, the second one with a mark, otherwise than as one text."""
+    """Stops where the program beside this one reads two files otherwise than as one text."""
     program = texts.program_with_arguments(program)
     text, _, answers = stored_run()
     with tempfile.TemporaryDirectory() as folder:
         paths = [os.path.join(folder, name) for name in ("first", "second")]
         for cut in (lines_end(text, 5), lines_end(text, 5) - 1):
-            for path, part in zip(paths, (text[:cut], codecs.BOM_UTF8 + text[lines_end(text, 5) :])):
+            for path, part in zip(paths, (text[:cut], text[lines_end(text, 5) :])):
                 with open(path, "wb") as file:
                     file.write(part)
             done = subprocess.run([program, *paths], stdin=subprocess.DEVNULL, capture_output=True)

@@ -6,11 +6,7 @@ use std::fs::{File, Files};
 use std::io;
 use std::io::Read;
 
-/// The byte order mark in UTF-8, with which a file may begin.
-const MARK: [u8; 3] = [0xEF, 0xBB, 0xBF];
-
-/// What is read of several files, one after the other. Where one ends, its last line does. A mark at the beginning of each further one is
-/// passed over, where one read has it whole; that of the first is left.
+/// What is read of several files, one after the other. Where one ends, its last line does.
 #[derive(Drop)]
 pub struct FilesInOrder<F: Read + Drop> {
     files: Vec<F>,
@@ -18,8 +14,6 @@ pub struct FilesInOrder<F: Read + Drop> {
     place: usize,
     /// Whether a line began that hasn't ended.
     is_in_line: bool,
-    /// Whether nothing was read of the file, which isn't the first one.
-    is_at_start: bool,
 }
 
 impl<F: Read + Drop> FilesInOrder<F> {
@@ -28,7 +22,6 @@ impl<F: Read + Drop> FilesInOrder<F> {
             files,
             place: 0,
             is_in_line: false,
-            is_at_start: false,
         }
     }
 
@@ -43,18 +36,12 @@ impl<F: Read + Drop> Read for FilesInOrder<F> {
             let Some(file) = self.files.get_mut(self.place) else {
                 return Ok(0);
             };
-            let mut count = file.read(buf)?;
-            if self.is_at_start && count > MARK.len() && buf.starts_with(&MARK) {
-                buf.copy_within(MARK.len()..count, 0);
-                count = count - MARK.len();
-            }
-            self.is_at_start = false;
+            let count = file.read(buf)?;
             if let Some(last) = buf[..count].last() {
                 self.is_in_line = *last != b'\n';
                 return Ok(count);
             }
             self.place = self.place.saturating_add(1);
-            self.is_at_start = true;
             if self.is_in_line {
                 self.is_in_line = false;
                 if let Some(first) = buf.first_mut() {

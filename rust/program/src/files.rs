@@ -9,11 +9,7 @@ use kit::fs::{File, Files};
 use kit::io;
 use kit::io::Read;
 
-/// The byte order mark in UTF-8, with which a file may begin.
-const MARK: [u8; 3] = [0xEF, 0xBB, 0xBF];
-
-/// What is read of several files, one after the other. Where one ends, its last line does. A mark at the beginning of each further one is
-/// passed over, where one read has it whole; that of the first is left.
+/// What is read of several files, one after the other. Where one ends, its last line does.
 #[derive(Debug)]
 pub struct FilesInOrder<F: Read + Drop> {
     files: Vec<F>,
@@ -21,8 +17,6 @@ pub struct FilesInOrder<F: Read + Drop> {
     place: usize,
     /// Whether a line began that hasn't ended.
     is_in_line: bool,
-    /// Whether nothing was read of the file, which isn't the first one.
-    is_at_start: bool,
 }
 
 impl<F: Read + Drop> FilesInOrder<F> {
@@ -31,7 +25,6 @@ impl<F: Read + Drop> FilesInOrder<F> {
             files,
             place: 0,
             is_in_line: false,
-            is_at_start: false,
         }
     }
 
@@ -46,18 +39,12 @@ impl<F: Read + Drop> Read for FilesInOrder<F> {
             let Some(file) = self.files.get_mut(self.place) else {
                 return Ok(0);
             };
-            let mut count = file.read(buf)?;
-            if self.is_at_start && count > MARK.len() && buf.starts_with(&MARK) {
-                buf.copy_within(MARK.len()..count, 0);
-                count = count - MARK.len();
-            }
-            self.is_at_start = false;
+            let count = file.read(buf)?;
             if let Some(last) = buf[..count].last() {
                 self.is_in_line = *last != b'\n';
                 return Ok(count);
             }
             self.place = self.place.saturating_add(1);
-            self.is_at_start = true;
             if self.is_in_line {
                 self.is_in_line = false;
                 if let Some(first) = buf.first_mut() {
