@@ -36,6 +36,15 @@ use Rattle.assembly_text.specs.Printing.{AddsAnswer, IsCheckText}
 use Rattle.assembly_text.specs.Specializing.{IsFoundOf, IsPairStop, IsTestStopped, IsTested, specialized_by}
 use Rattle.candidate_rounds.specs.declared.rounds.effort.Effort.{Effort}
 
+-- the impl of that number is one of the prelude
+
+abbrev pub is_prelude : Origin → Bool
+is_prelude origin.Prelude = true
+is_prelude (origin.Line n) = false
+
+abbrev pub is_of_prelude : List NamedImpl → ImplId → Bool
+is_of_prelude names a = maybe false (λ p. is_prelude p.origin) (slice_get names a.0)
+
 -- ` (prelude)`, or ` (line `, the number of the line, and `)`
 abbrev pub origin_text : Origin → List ℕ
 origin_text origin.Prelude = 32 ∷ 40 ∷ 112 ∷ 114 ∷ 101 ∷ 108 ∷ 117 ∷ 100 ∷ 101 ∷ 41 ∷ []
@@ -168,10 +177,11 @@ pub data SaysOfImpl (names : Names) (first : Context) (a : ImplId) : List ℕ �
   orphan_stop : (c : Context) (t : TraitRef) (s : Stop) → Grows first c → IsOpenHeader c a t → StoppedBy (plain_check_of c (Local Proper) t) s
       → SaysOfImpl names first a (orphan_text names.impls.items a ++ stop_text s)
 
--- What is said of two impls, over what is declared, under what is given, by what is found of them in so many rounds for each where clause: nothing;
--- that there is an instance of both; that one of them specialises the other one; or that a call stopped, and by what.
+-- What is said of two impls, over what is declared, under what is given, by what is found of them in so many rounds for each where clause: nothing,
+-- also where both are of the prelude and nothing was asked; that there is an instance of both; that one of them specialises the other one; or that a call stopped, and by what.
 pub data SaysOfPair (names : Names) (first : Context) (g : Given) (effort : Effort) (a b : ImplId) : List ℕ → Type 0 where
   quiet : IsFoundOf first g effort a b found.Nothing → SaysOfPair names first g effort a b []
+  of_prelude : (is_of_prelude names.impls.items a && is_of_prelude names.impls.items b) ≡ true → SaysOfPair names first g effort a b []
   overlap : (x : CommonInstance) (word : List ℕ) → IsFoundOf first g effort a b (found.Instance x)
       → SaysOfPair names first g effort a b (pair_text names.impls.items a b ++ (found_text first a b x ++ (word ++ 10 ∷ [])))
   special : (s t : ImplId) → IsFoundOf first g effort a b (found.Specializes s t) → SaysOfPair names first g effort a b (special_text names.impls.items s t)

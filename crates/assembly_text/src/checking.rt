@@ -1,6 +1,6 @@
 //! The query that checks all impls: whether the local crate may write those of its own, and which may overlap.
 
-ghost use Rattle.std.specs.Prelude.{◌≡◌, ◌<◌, ◌==◌, ◌↔◌, ◌++◌, [], ℕ, false, true, length, map, Ok, Err, IfOk, IfSome, OnOk, string_bytes};
+ghost use Rattle.std.specs.Prelude.{◌≡◌, ◌<◌, ◌==◌, ◌↔◌, ◌++◌, ◌&&◌, [], ℕ, false, true, length, map, Ok, Err, IfOk, IfSome, OnOk, string_bytes};
 ghost use Rattle.std.specs.List.{Contains, filter};
 ghost use Rattle.std.specs.List.Sorted.{IsStrictlyIncreasing};
 ghost use Rattle.ir_trees.specs.Declarations.Context.{Grows, parameter_kind};
@@ -13,7 +13,7 @@ ghost use Rattle.candidate_eval.specs.Knowability.Answers.{AreAnswerTypes, answe
 ghost use Rattle.candidate_eval.specs.Knowability.Calls.{HasNoParam};
 ghost use Rattle.assembly_text.specs.Efforts.{effort_of_line};
 ghost use Rattle.assembly_text.specs.Asking.{declared_part};
-ghost use Rattle.assembly_text.specs.Checking.{AddsFailure, AddsFound, AddsOfAll, AddsOfImpl, AddsOfLine, AddsOfLines, AddsOfPair, AddsOfPairs, AddsTest, AddsWhereRefused, AddsWithOthers, HasError, IsDeclaredAlone, IsLength, SaysFindings, SaysFindingsOfLine, Stays, found_text, impl_text, origin_text, is_checked_alone, is_positive_impl, line_text, lint_text, or_ok, orphan_text, pair_text, place_text, special_text, stop_text, stopped_text};
+ghost use Rattle.assembly_text.specs.Checking.{AddsFailure, AddsFound, AddsOfAll, AddsOfImpl, AddsOfLine, AddsOfLines, AddsOfPair, AddsOfPairs, AddsTest, AddsWhereRefused, AddsWithOthers, HasError, IsDeclaredAlone, IsLength, SaysFindings, SaysFindingsOfLine, Stays, found_text, is_of_prelude, impl_text, origin_text, is_checked_alone, is_positive_impl, line_text, lint_text, or_ok, orphan_text, pair_text, place_text, special_text, stop_text, stopped_text};
 ghost use Rattle.assembly_text.specs.Specializing.{IsPrintableFound, specialized_by};
 ghost use Rattle.assembly_text.specs.Paired.{HasAllThatMayOverlap, HasImplsWithAliases, IsOpenHeader, IsPairedHere, IsPairedWithAll, is_asked_with, listed_of, one_if, trait_with_alias, variables_for};
 ghost use Rattle.candidate_rounds.specs.Table.Efforts.{IsEffort};
@@ -425,7 +425,7 @@ impl<'a> Asking<'a> {
         (asking, Ok(()))
     }
 
-    /// Adds what is found of the two impls.
+    /// Adds what is found of the two impls. Of two of the prelude nothing is asked: std's own compilation has compared these.
     fn with_pair(
         self,
         first: ImplId,
@@ -438,10 +438,30 @@ impl<'a> Asking<'a> {
         ensures stays { Stays self.entry result.0 }
         ensures found { OnOk result.1 (AddsOfPair effort first second self.entry result.0) }
     {
+        if self.are_of_prelude(first, second) {
+            return (self, Ok(()));
+        }
         let (mut asking, found) = self.compare(first, second, effort);
         let made = asking.print_pair(first, second, found);
         asking.forget_nodes();
         (asking, made)
+    }
+
+    /// Whether both impls are of the prelude.
+    pub(crate) fn are_of_prelude(&self, first: ImplId, second: ImplId) -> bool
+        ensures { let names = self.now.scope.names.impls.items in result ≡ (is_of_prelude names first && is_of_prelude names second) }
+    {
+        self.is_of_prelude(first) && self.is_of_prelude(second)
+    }
+
+    /// Whether the impl is one of the prelude.
+    fn is_of_prelude(&self, of: ImplId) -> bool
+        ensures { result ≡ is_of_prelude self.now.scope.names.impls.items of }
+    {
+        match self.scope.names.impls.get(of.0 as usize) {
+            Some(named) => matches!(named.origin, Origin::Prelude),
+            None => false,
+        }
     }
 
     /// Adds what is an instance of the two impls, which of them specialises the other one, or that a call stopped, after which other pairs may

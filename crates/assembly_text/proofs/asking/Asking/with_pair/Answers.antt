@@ -1,10 +1,18 @@
-use Rattle.std.proofs.Common.{◌∙◌, ℕ, List, OnOk, ap, subst, sym}
+use Rattle.std.proofs.Common.{◌∙◌, ℕ, List, [], OnOk, ap, refl, subst, sym}
+use Rattle.std.proofs.lemmas.List.{append-nil}
+use Rattle.ir_trees.proofs.Growth.Kept.{grows-refl}
 use Rattle.std.specs.Prelude.{string_bytes}
 use Rattle.ir_trees.specs.Declarations.Context.{Grows}
 use Rattle.assembly_notation.specs.declared.names.NamedImpl.{NamedImpl}
-use Rattle.assembly_text.specs.Checking.{AddsFound}
+use Rattle.assembly_text.specs.Checking.{AddsFound, of_prelude}
 use Rattle.assembly_text.proofs.Finding.{adds-earlier, adds-pair, adds-same, alone-again, stays-forgot}
 use Rattle.assembly_text.proofs.asking.Asking.with_pair.Goals as goal
+
+pub returns-then-branch-clause-stays : goal.returns-then-branch-clause-stays
+returns-then-branch-clause-stays c = record { grows = grows-refl c.args.self.scope.maker; names = refl; given = refl }
+
+pub returns-then-branch-clause-found : goal.returns-then-branch-clause-found
+returns-then-branch-clause-found c = ([], of_prelude (sym c.are_of_prelude.ensures ∙ c.if-branch.true), sym (append-nil (string_bytes c.args.self.answer)))
 
 pub returns-clause-declared : goal.returns-clause-declared
 returns-clause-declared c = alone-again _ _ c.forget_nodes.ensures.context
