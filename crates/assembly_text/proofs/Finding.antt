@@ -23,7 +23,7 @@ use Rattle.assembly_notation.specs.declared.given.Given.{Given}
 use Rattle.assembly_notation.specs.declared.names.NamedImpl.{NamedImpl}
 use Rattle.assembly_notation.specs.declared.names.Names.{Names}
 use Rattle.assembly_text.specs.Asking.{declared_part}
-use Rattle.assembly_text.specs.Checking.{Adds, AddsFound, AddsOfAll, AddsOfImpl, AddsOfImpls, AddsOfLine, AddsOfLines, AddsOfPair, AddsOfPairs, AddsTest, AddsWithOthers, IsDeclaredAlone, SaysFindings, SaysFindingsOfLine, SaysOfImpl, SaysOfImpls, SaysOfLine, SaysOfLines, SaysOfPair, SaysOfPairs, SaysWithOthers, Stays, and_impl, and_line, and_pair, found_text, line_stop, no_impl, no_line, no_pair, not_asked, not_so, or_ok, orphan, orphan_stop, overlap, overlap_stop, pair_text, passes, quiet, refused, so, says_yes, special, stop_text, stopped_text}
+use Rattle.assembly_text.specs.Checking.{Adds, AddsFound, AddsOfAll, AddsOfImpl, AddsOfImpls, AddsOfLine, AddsOfLines, AddsOfPair, AddsOfPairs, AddsTest, AddsWithOthers, IsDeclaredAlone, SaysFindings, SaysFindingsOfLine, SaysOfImpl, SaysOfImpls, SaysOfLine, SaysOfLines, SaysOfPair, SaysOfPairs, SaysWithOthers, Stays, and_impl, and_line, and_pair, found_text, line_stop, no_impl, no_line, no_pair, not_asked, not_so, of_prelude, or_ok, orphan, orphan_stop, overlap, overlap_stop, pair_text, passes, quiet, refused, so, says_yes, special, stop_text, stopped_text}
 use Rattle.overlaps.specs.declared.instance.CommonInstance.{CommonInstance}
 use Rattle.assembly_text.specs.Overlapping.{AddsAfter, instance_text}
 use Rattle.assembly_text.specs.Paired.{IsPairedHere}
@@ -92,6 +92,7 @@ adds-earlier c d names a b (Err s) (Ok x) old new w e = e
 module _ (names : Names) (g : Given) (effort : Effort) (a b : Context) (w : Grows a b) where
   pair-before : (i j : ImplId) (text : List ℕ) → SaysOfPair names b g effort i j text → SaysOfPair names a g effort i j text
   pair-before i j _ (quiet h) = quiet (found-before a b w g effort i j found.Nothing h)
+  pair-before i j _ (of_prelude e) = of_prelude e
   pair-before i j _ (overlap x word h) =
       subst (λ (t : List ℕ). SaysOfPair names a g effort i j (pair_text names.impls.items i j ++ (t ++ (word ++ 10 ∷ [])))) (words-before a b w x i j) (overlap x word (found-before a b w g effort i j (found.Instance x) h))
   pair-before i j _ (special s t h) = special s t (found-before a b w g effort i j (found.Specializes s t) h)

@@ -333,7 +333,7 @@ impl<'a> Asking<'a> {
         (asking, Ok(()))
     }
 
-    /// Adds what is found of the two impls.
+    /// Adds what is found of the two impls. Of two of the prelude nothing is asked: std's own compilation has compared these.
     fn with_pair(
         self,
         first: ImplId,
@@ -341,10 +341,28 @@ impl<'a> Asking<'a> {
         effort: Effort,
     ) -> (Asking<'a>, Result<(), Stop>)
     {
+        if self.are_of_prelude(first, second) {
+            return (self, Ok(()));
+        }
         let (mut asking, found) = self.compare(first, second, effort);
         let made = asking.print_pair(first, second, found);
         asking.forget_nodes();
         (asking, made)
+    }
+
+    /// Whether both impls are of the prelude.
+    pub(crate) fn are_of_prelude(&self, first: ImplId, second: ImplId) -> bool
+    {
+        self.is_of_prelude(first) && self.is_of_prelude(second)
+    }
+
+    /// Whether the impl is one of the prelude.
+    fn is_of_prelude(&self, of: ImplId) -> bool
+    {
+        match self.scope.names.impls.get(of.0 as usize) {
+            Some(named) => matches!(named.origin, Origin::Prelude),
+            None => false,
+        }
     }
 
     /// Adds what is an instance of the two impls, which of them specialises the other one, or that a call stopped, after which other pairs may

@@ -115,6 +115,9 @@ impl<'a> Asking<'a> {
         pairs: &mut Vec<OpenPair>,
     ) -> (Asking<'a>, Result<(), Stop>)
     {
+        if self.are_of_prelude(pair.first, pair.second) {
+            return (self, Ok(()));
+        }
         let (mut asking, found) = self.compare(pair.first, pair.second, effort);
         asking.forget_nodes();
         let made = match found {

@@ -1357,4 +1357,44 @@ impl 9 as_ref_cell_array_slice_cell ct + AsRef Cell [#0] #1 [] Cell #1
 iwhere as_ref_cell_array_slice_cell Sized #1
 impl 9 as_ref_cell_slice_slice_cell 1 + AsRef Cell [] #0 [] Cell #0
 iwhere as_ref_cell_slice_slice_cell Sized #0
+
+// Impls that may overlap with others of these, as far as another crate can tell. `check` asks nothing of two impls that stand here.
+impl 9 into_iter_iterator 1 + IntoIterator #0
+iwhere into_iter_iterator Sized #0
+iwhere into_iter_iterator Iterator #0
+value into_iter_iterator Element Item #0
+value into_iter_iterator IntoIter #0
+impl 9 into_iter_box_slice 1 + IntoIterator Box [] #0
+iwhere into_iter_box_slice Sized #0
+value into_iter_box_slice IntoIter vec::IntoIter #0
+value into_iter_box_slice Element #0
+impl 9 into_iter_ref_box_slice 1 + IntoIterator & Box [] #0
+iwhere into_iter_ref_box_slice Sized #0
+value into_iter_ref_box_slice IntoIter slice::Iter #0
+value into_iter_ref_box_slice Element & #0
+impl 9 into_iter_ref_mut_box_slice 1 + IntoIterator &mut Box [] #0
+iwhere into_iter_ref_mut_box_slice Sized #0
+value into_iter_ref_mut_box_slice IntoIter slice::IterMut #0
+value into_iter_ref_mut_box_slice Element &mut #0
+impl 9 iterator_not_slice 1 - Iterator [] #0
+iwhere iterator_not_slice Sized #0
+impl 9 iterator_not_box_slice 1 - Iterator Box [] #0
+iwhere iterator_not_box_slice Sized #0
+impl 9 iterator_not_ref_box_slice 1 - Iterator & Box [] #0
+iwhere iterator_not_ref_box_slice Sized #0
+impl 9 iterator_not_ref_mut_box_slice 1 - Iterator &mut Box [] #0
+iwhere iterator_not_ref_mut_box_slice Sized #0
+impl 9 from_box_error 1 + From Box dyn(1) Error #0
+iwhere from_box_error Sized #0
+iwhere from_box_error Error #0
+impl 9 from_box_error_string 0 + From Box dyn(1) Error String
+impl 9 from_box_error_ref_str 0 + From Box dyn(1) Error & str
+impl 9 from_box_sync_error 1 + From Box dyn(3) Error Send Sync #0
+iwhere from_box_sync_error Sized #0
+iwhere from_box_sync_error Error #0
+iwhere from_box_sync_error Send #0
+iwhere from_box_sync_error Sync #0
+impl 9 from_box_sync_error_string 0 + From Box dyn(3) Error Send Sync String
+impl 9 from_box_sync_error_ref_str 0 + From Box dyn(3) Error Send Sync & str
+impl 9 error_not_ref_str 0 - Error & str
 ";

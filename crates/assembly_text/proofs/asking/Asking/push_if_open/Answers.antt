@@ -3,8 +3,8 @@ use Rattle.ir_trees.proofs.Growth.Kept.{grows-refl}
 use Rattle.assembly_text.proofs.Finding.{alone-again, stays-forgot}
 use Rattle.assembly_text.proofs.asking.Asking.push_if_open.Goals as goal
 
-pub returns-then-branch-clause-stays : goal.returns-then-branch-clause-stays
-returns-then-branch-clause-stays c = record { grows = grows-refl c.args.self.scope.maker; names = refl; given = refl }
+pub returns-then-are_of_prelude-clause-stays : goal.returns-then-are_of_prelude-clause-stays
+returns-then-are_of_prelude-clause-stays c = record { grows = grows-refl c.args.self.scope.maker; names = refl; given = refl }
 
 pub returns-clause-declared : goal.returns-clause-declared
 returns-clause-declared c = alone-again _ _ c.forget_nodes.ensures.context

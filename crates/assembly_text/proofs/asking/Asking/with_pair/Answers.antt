@@ -8,11 +8,11 @@ use Rattle.assembly_text.specs.Checking.{AddsFound, of_prelude}
 use Rattle.assembly_text.proofs.Finding.{adds-earlier, adds-pair, adds-same, alone-again, stays-forgot}
 use Rattle.assembly_text.proofs.asking.Asking.with_pair.Goals as goal
 
-pub returns-then-branch-clause-stays : goal.returns-then-branch-clause-stays
-returns-then-branch-clause-stays c = record { grows = grows-refl c.args.self.scope.maker; names = refl; given = refl }
+pub returns-then-are_of_prelude-clause-stays : goal.returns-then-are_of_prelude-clause-stays
+returns-then-are_of_prelude-clause-stays c = record { grows = grows-refl c.args.self.scope.maker; names = refl; given = refl }
 
-pub returns-then-branch-clause-found : goal.returns-then-branch-clause-found
-returns-then-branch-clause-found c = ([], of_prelude (sym c.are_of_prelude.ensures ∙ c.if-branch.true), sym (append-nil (string_bytes c.args.self.answer)))
+pub returns-then-are_of_prelude-clause-found : goal.returns-then-are_of_prelude-clause-found
+returns-then-are_of_prelude-clause-found c = ([], of_prelude (sym c.are_of_prelude.ensures ∙ c.if-are_of_prelude.true), sym (append-nil (string_bytes c.args.self.answer)))
 
 pub returns-clause-declared : goal.returns-clause-declared
 returns-clause-declared c = alone-again _ _ c.forget_nodes.ensures.context
