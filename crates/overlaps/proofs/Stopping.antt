@@ -1,13 +1,17 @@
 -- Why calls stopped, from one call to the next.
 use Rattle.std.proofs.Common.{◌≡◌, ℕ, List, [], length, Result, Ok, Err, IfErr, refl, sym, ap, subst, ◌∙◌}
 use Rattle.std.specs.Prelude.{IsErrAnd}
+use Rattle.ir_trees.specs.declared.ir.kinds.ParamEnv.{ParamEnv}
+use Rattle.ir_trees.specs.declared.ir.kinds.TraitPredicate.{TraitPredicate}
 use Rattle.ir_trees.specs.declared.ir.stop.Stop.{Stop}
 use Rattle.ir_trees.specs.Declarations.Context.{Context, Grows}
 use Rattle.ir_trees.specs.Instantiation.Folding.{IsSubstStop, substituted}
 use Rattle.ir_trees.specs.Syntax.Nodes.{tree_at}
 use Rattle.ir_trees.specs.Syntax.Trees.{Kind}
 use Rattle.ir_trees.specs.Unification.Substitutions.{row_of}
-use Rattle.ir_trees.proofs.Growth.Kept.{grows-refl, grows-trans}
+use Rattle.ir_trees.specs.Syntax.Words.{IsArgs, IsParamEnv}
+use Rattle.ir_trees.proofs.Growth.Kept.{args-kept, grows-refl, grows-trans}
+use Rattle.candidate_eval.proofs.Dynamic.Objects.{env-kept}
 use Rattle.candidate_eval.specs.Interface.Accounts.{Account, StopsSomehow}
 use Rattle.candidate_eval.specs.Interface.Accounts.StopsSomehow.{making}
 use Rattle.candidate_eval.specs.Interface.Evaluators.{Keeps, KeepsBut}
@@ -20,7 +24,7 @@ use Rattle.candidate_rounds.specs.Table.Normalizing.{rounds_shown}
 use Rattle.candidate_rounds.specs.Table.Running.{as_it_is, with_table}
 use Rattle.candidate_rounds.proofs.Table.Coming.{comes-before, comes-same, comes-then}
 use Rattle.overlaps.specs.Refused.{StaysBesideKnown, StaysBesideSteps}
-use Rattle.overlaps.specs.Stopping.{IsLater, IsOverlapStop, IsStepStop, step_asking}
+use Rattle.overlaps.specs.Stopping.{IsLater, IsOverlapStop, IsStepStop, IsThere, step_asking}
 use Rattle.overlaps.proofs.Staying.{context_of}
 
 -- what is said of the stop that a `?` hands on
@@ -38,6 +42,10 @@ substitute-somehow {context = context} {a = a} k n list kept h = making (of_tree
 
 pub later-refl : (r : Evaluator) → IsLater r r
 later-refl r = record { grows = grows-refl r.context; fixed_same = refl; table = as_it_is }
+
+-- what is of the context stays so
+pub there : {r s : Evaluator} (e : ParamEnv) (p : TraitPredicate) → IsLater r s → IsParamEnv r.context.trees e → IsArgs r.context.trees p.trait_ref.args → IsThere s e p
+there {r} {s} e p l x y = ((env-kept r.context s.context e l.grows x).0, (args-kept r.context s.context p.trait_ref.args l.grows y).0)
 
 pub later-then : {r s t : Evaluator} → IsLater r s → IsLater s t → IsLater r t
 later-then {r} {s} {t} g h = record {

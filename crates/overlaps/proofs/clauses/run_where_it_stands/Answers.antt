@@ -3,7 +3,7 @@ use Rattle.candidate_assembly.specs.Goals.TraitGoals.{trait_goal}
 use Rattle.overlaps.specs.Stopping.{IsOverlapStop, step_key, step_run}
 use Rattle.overlaps.proofs.AskedClauses.{predicate-not-tried, predicate-tried}
 use Rattle.overlaps.proofs.Staying.{stays-refl, stays-run, stays-same, stays-trans}
-use Rattle.overlaps.proofs.Stopping.{later-refl, later-steps, passed-on, step-stop}
+use Rattle.overlaps.proofs.Stopping.{later-refl, later-steps, passed-on, step-stop, there}
 use Rattle.overlaps.proofs.clauses.run_where_it_stands.Goals as goal
 
 pub returns-then-not-stands_here-clause-stays : goal.returns-then-not-stands_here-clause-stays
@@ -33,10 +33,10 @@ returns-clause-tried c =
     c.in_ok-_verdict.ensures.ran
 
 pub returns-in_err-may_be_run-clause-cause : goal.returns-in_err-may_be_run-clause-cause
-returns-in_err-may_be_run-clause-cause c = passed-on (IsOverlapStop c.args.rounds.now c.may_be_run.new.self) c.from_residual.result c.in_err-may_be_run.field-0.0 c.from_residual.ensures.1 (step-stop (later-refl c.args.rounds.now) (step_key (trait_goal c.args.rounds.now.context.trees c.args.env c.args.predicate) c.in_err-may_be_run.ensures.cause))
+returns-in_err-may_be_run-clause-cause c = passed-on (IsOverlapStop c.args.rounds.now c.may_be_run.new.self) c.from_residual.result c.in_err-may_be_run.field-0.0 c.from_residual.ensures.1 (step-stop (later-refl c.args.rounds.now) (step_key c.args.env c.args.predicate (there c.args.env c.args.predicate (later-refl c.args.rounds.now) c.requires.env c.requires.args) c.in_err-may_be_run.ensures.cause))
 
 pub returns-in_err-_verdict-clause-cause : goal.returns-in_err-_verdict-clause-cause
-returns-in_err-_verdict-clause-cause c = passed-on (IsOverlapStop c.args.rounds.now c.run_by.new.self) c.from_residual-in_err-_verdict.result c.in_err-_verdict.field-0.0 c.from_residual-in_err-_verdict.ensures.1 (step-stop (later-steps (stays-same c.may_be_run.ensures.stays c.may_be_run.ensures.table)) (step_run (trait_goal c.may_be_run.new.self.context.trees c.args.env c.args.predicate) c.in_err-_verdict.ensures.cause))
+returns-in_err-_verdict-clause-cause c = passed-on (IsOverlapStop c.args.rounds.now c.run_by.new.self) c.from_residual-in_err-_verdict.result c.in_err-_verdict.field-0.0 c.from_residual-in_err-_verdict.ensures.1 (step-stop (later-steps (stays-same c.may_be_run.ensures.stays c.may_be_run.ensures.table)) (step_run c.args.env c.args.predicate (there c.args.env c.args.predicate (later-steps (stays-same c.may_be_run.ensures.stays c.may_be_run.ensures.table)) c.requires.env c.requires.args) c.in_err-_verdict.ensures.cause))
 
 pub returns-in_err-may_be_run-clause-stays : goal.returns-in_err-may_be_run-clause-stays
 returns-in_err-may_be_run-clause-stays c = stays-same c.may_be_run.ensures.stays c.may_be_run.ensures.table

@@ -21,7 +21,7 @@ use Rattle.overlaps.specs.Stopping.{IsOverlapStop, step_key}
 use Rattle.overlaps.specs.declared.reasons.Cause.TheVariants as C
 use Rattle.overlaps.proofs.OpenClauses.{cause-by, maybe-earlier, some-yes}
 use Rattle.overlaps.proofs.Staying.{stays-refl, stays-same, stays-trans}
-use Rattle.overlaps.proofs.Stopping.{asking-stop, later-refl, later-steps, passed-on, step-stop, stop-later}
+use Rattle.overlaps.proofs.Stopping.{asking-stop, later-refl, later-steps, passed-on, step-stop, stop-later, there}
 use Rattle.overlaps.proofs.reasons.cause_of_goal.Goals as goal
 
 pub returns-then-not-stands_here-clause-stays : goal.returns-then-not-stands_here-clause-stays
@@ -35,7 +35,7 @@ returns-then-not-stands_here-clause-is c =
     absurd cc)
 
 pub returns-in_err-verdict-clause-cause : goal.returns-in_err-verdict-clause-cause
-returns-in_err-verdict-clause-cause c = passed-on (IsOverlapStop c.args.rounds.now c.entry.new.self) c.from_residual.result c.in_err-verdict.field-0.0 c.from_residual.ensures.1 (step-stop (later-refl c.args.rounds.now) (step_key (trait_goal c.args.rounds.now.context.trees c.args.env c.args.predicate) c.in_err-verdict.ensures.cause))
+returns-in_err-verdict-clause-cause c = passed-on (IsOverlapStop c.args.rounds.now c.entry.new.self) c.from_residual.result c.in_err-verdict.field-0.0 c.from_residual.ensures.1 (step-stop (later-refl c.args.rounds.now) (step_key c.args.env c.args.predicate (there c.args.env c.args.predicate (later-refl c.args.rounds.now) c.requires.env c.requires.args) c.in_err-verdict.ensures.cause))
 
 pub cause_of_unasked-requires : goal.cause_of_unasked-requires
 cause_of_unasked-requires c =

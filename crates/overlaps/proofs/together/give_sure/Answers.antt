@@ -1,8 +1,6 @@
 use Rattle.overlaps.proofs.Staying.{known-kept, known-refl}
 use Rattle.overlaps.proofs.Stopping.{later-refl, step-stop}
 use Rattle.overlaps.specs.Stopping.{step_giving}
-use Rattle.candidate_eval.specs.Outcomes.ResponseTrees.{response_of}
-use Rattle.candidate_rounds.specs.Table.Normalizing.{goal_of_trait}
 use Rattle.overlaps.proofs.together.give_sure.Goals as goal
 
 pub returns-in-Maybe-clause-stays : goal.returns-in-Maybe-clause-stays
@@ -20,4 +18,4 @@ returns-in-Err-Stop-clause-stays c = known-kept c.give_normal.ensures.kept
 pub returns-in-Err-Stop-clause-cause : goal.returns-in-Err-Stop-clause-cause
 returns-in-Err-Stop-clause-cause c =
     let r = c.args.rounds.now in
-    step-stop (later-refl r) (step_giving (goal_of_trait r.context c.args.env c.args.alias) (response_of r.context.trees c.args.response.now) (c.in-Err-Stop.ensures.cause c.in-Err-Stop.stop c.in-Err-Stop.field-0-is))
+    step-stop (later-refl r) (step_giving c.args.env c.args.alias c.args.response.now c.requires.projection c.requires.response (c.in-Err-Stop.ensures.cause c.in-Err-Stop.stop c.in-Err-Stop.field-0-is))

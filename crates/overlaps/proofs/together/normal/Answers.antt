@@ -7,7 +7,6 @@ use Rattle.ir_trees.specs.Syntax.Words.{IsArgs, args_forest, kind_tree}
 use Rattle.ir_trees.proofs.Growth.Kept.{args-kept}
 use Rattle.candidate_eval.proofs.Dynamic.Objects.{env-kept}
 use Rattle.candidate_eval.proofs.Interface.Accounts.{memory-somehow}
-use Rattle.candidate_assembly.specs.Goals.TraitGoals.{trait_goal}
 use Rattle.candidate_assembly.proofs.Calls.Keeping.{trait-goal-kept}
 use Rattle.candidate_rounds.specs.Evaluators.Known.{sure_of}
 use Rattle.candidate_rounds.specs.Table.Normalizing.{trait_predicate}
@@ -40,9 +39,13 @@ returns-in_err-may_be_run-clause-stays c = stays-trans c.verdict_here.ensures.st
 
 pub returns-in_err-may_be_run-clause-cause : goal.returns-in_err-may_be_run-clause-cause
 returns-in_err-may_be_run-clause-cause c =
-    let at = c.verdict_here.new.rounds in
+    let old = c.args.rounds.now.context in
+    let now = c.verdict_here.new.rounds.context in
+    let grows = c.verdict_here.ensures.stays.grows in
+    let is : c.trait_predicate-predicate.result ≡ trait_predicate old c.args.alias = c.trait_predicate-predicate.ensures ∙ ap (λ (y : Context). trait_predicate y c.args.alias) c.cx-2.ensures in
+    let args = subst (λ (q : TraitPredicate). IsArgs now.trees q.trait_ref.args) (sym is) (args-kept old now c.args.alias.args grows (alias-args old.trees c.args.alias c.requires.alias)).0 in
     passed-on (IsOverlapStop c.args.rounds.now c.may_be_run.new.self) c.from_residual-in_err-may_be_run.result c.in_err-may_be_run.field-0.0 c.from_residual-in_err-may_be_run.ensures.1
-    (step-stop (later-steps c.verdict_here.ensures.stays) (step_key (trait_goal at.context.trees c.args.env c.trait_predicate-predicate.result) c.in_err-may_be_run.ensures.cause))
+    (step-stop (later-steps c.verdict_here.ensures.stays) (step_key c.args.env c.trait_predicate-predicate.result ((env-kept old now c.args.env grows c.requires.env).0, args) c.in_err-may_be_run.ensures.cause))
 
 pub returns-then-not-branch-clause-stays : goal.returns-then-not-branch-clause-stays
 returns-then-not-branch-clause-stays c = stays-trans c.verdict_here.ensures.stays (stays-same c.may_be_run.ensures.stays c.may_be_run.ensures.table)
@@ -142,5 +145,15 @@ returns-clause-comes c =
 
 pub returns-clause-cause : goal.returns-clause-cause
 returns-clause-cause c =
+    let old = c.args.rounds.now.context in
+    let asked = c.may_be_run.new.self.context in
+    let now = c.is_proved.new.rounds.context in
+    let alias = c.args.alias in
+    let p = c.trait_predicate-predicate.result in
+    let is : p ≡ trait_predicate old alias = c.trait_predicate-predicate.ensures ∙ ap (λ (y : Context). trait_predicate y alias) c.cx-2.ensures in
     let stays = stays-trans (stays-trans c.verdict_here.ensures.stays (stays-same c.may_be_run.ensures.stays c.may_be_run.ensures.table)) c.is_proved.ensures.stays in
-    normalizing-stop c.args.rounds.now c.is_proved.new.rounds c.normalize.new.self c.args.env c.args.alias c.args.effort c.normalize.result (later-steps stays) c.normalize.ensures.normalized
+    let takes : Takes (world old) (kind_tree old.trees (K.Alias alias))
+    = subst (λ (y : Context). Takes (world y) (kind_tree y.trees (K.Alias alias))) c.cx.ensures (c.args_fit.ensures.0 c.if-not-args_fit.false) in
+    let projection = projection-later old now c.args.env alias p stays.grows c.requires.alias c.requires.projection takes is
+    (trait-goal-kept asked now c.args.env p c.is_proved.ensures.stays.grows c.may_be_run.ensures.goal).0 in
+    normalizing-stop c.args.rounds.now c.is_proved.new.rounds c.normalize.new.self c.args.env alias c.args.effort c.normalize.result (later-steps stays) projection c.normalize.ensures.normalized
