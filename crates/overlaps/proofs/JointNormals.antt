@@ -159,9 +159,9 @@ of-projection c d e a p g is never = λ some.
     }
 
 pub normalizing-stop : (old by new : Evaluator) (e : ParamEnv) (a : AliasTy) (n : Effort) (r : Result (Option CanonicalResponse) Stop) → IsLater old by
-    → IsProjection by.context e a → IsNormalized new.context.trees by e a n (table_of new) r → IfErr r (IsOverlapStop old new)
-normalizing-stop old by new e a n (Ok o) l p h = tt
-normalizing-stop old by new e a n (Err s) l p h = step-stop l (step_normalizing e a n p h)
+    → Grows by.context new.context → IsProjection by.context e a → IsNormalized new.context.trees by e a n (table_of new) r → IfErr r (IsOverlapStop old new)
+normalizing-stop old by new e a n (Ok o) l g p h = tt
+normalizing-stop old by new e a n (Err s) l g p h = step-stop l (step_normalizing e a n g.kept p h)
 
 pub still-projection : (c d : Context) (e : ParamEnv) (a : AliasTy) (r : Result (Option CanonicalResponse) Stop) → Grows c d → IsProjection c e a → IfOk r (λ o. IfSome o (λ _. IsProjection d e a))
 still-projection c d e a (Ok (Some x)) g h = projection-kept c d e a g h

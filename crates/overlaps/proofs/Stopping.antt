@@ -6,8 +6,8 @@ use Rattle.ir_trees.specs.declared.ir.kinds.TraitPredicate.{TraitPredicate}
 use Rattle.ir_trees.specs.declared.ir.stop.Stop.{Stop}
 use Rattle.ir_trees.specs.Declarations.Context.{Context, Grows}
 use Rattle.ir_trees.specs.Instantiation.Folding.{IsSubstStop, substituted}
-use Rattle.ir_trees.specs.Syntax.Nodes.{tree_at}
-use Rattle.ir_trees.specs.Syntax.Trees.{Kind}
+use Rattle.ir_trees.specs.Syntax.Nodes.{Extends, tree_at}
+use Rattle.ir_trees.specs.Syntax.Trees.{Kind, Tree}
 use Rattle.ir_trees.specs.Unification.Substitutions.{row_of}
 use Rattle.ir_trees.specs.Syntax.Words.{IsArgs, IsParamEnv}
 use Rattle.ir_trees.proofs.Growth.Kept.{args-kept, grows-refl, grows-trans}
@@ -44,8 +44,9 @@ pub later-refl : (r : Evaluator) → IsLater r r
 later-refl r = record { grows = grows-refl r.context; fixed_same = refl; table = as_it_is }
 
 -- what is of the context stays so
-pub there : {r s : Evaluator} (e : ParamEnv) (p : TraitPredicate) → IsLater r s → IsParamEnv r.context.trees e → IsArgs r.context.trees p.trait_ref.args → IsThere s e p
-there {r} {s} e p l x y = ((env-kept r.context s.context e l.grows x).0, (args-kept r.context s.context p.trait_ref.args l.grows y).0)
+pub there : {ts : List Tree} {r s : Evaluator} (e : ParamEnv) (p : TraitPredicate) → IsLater r s → IsParamEnv r.context.trees e → IsArgs r.context.trees p.trait_ref.args
+    → Extends s.context.trees ts → IsThere ts s e p
+there {ts} {r} {s} e p l x y k = (k, (env-kept r.context s.context e l.grows x).0, (args-kept r.context s.context p.trait_ref.args l.grows y).0)
 
 pub later-then : {r s t : Evaluator} → IsLater r s → IsLater s t → IsLater r t
 later-then {r} {s} {t} g h = record {

@@ -34,10 +34,11 @@ pub record IsGoalStop {E : Type 0} (v : Shown E) (first last : E) (g : TraitGoal
   pub comes : is_evaluator_stop s ≡ false → IsTraitAnswer (v.judge (v.fixed first)) (v.context first) (v.state first) g (v.state last) (Stopped s)
   pub own : StopsOfItself v.fixed v.context v.state v.stops first last s
 
--- The environment and the arguments of the predicate are nodes of the evaluator's context; and the goal that it says.
+-- The environment and the arguments of the predicate are nodes of the evaluator's context, whose trees are the first of these; and the goal that the
+-- predicate says.
 
-abbrev pub IsThere : Evaluator → ParamEnv → TraitPredicate → Type 0
-IsThere r e p = IsParamEnv r.context.trees e × IsArgs r.context.trees p.trait_ref.args
+abbrev pub IsThere : List Tree → Evaluator → ParamEnv → TraitPredicate → Type 0
+IsThere ts r e p = Extends r.context.trees ts × IsParamEnv r.context.trees e × IsArgs r.context.trees p.trait_ref.args
 
 abbrev pub goal_there : Evaluator → ParamEnv → TraitPredicate → TraitGoal
 goal_there r e p = trait_goal r.context.trees e p
@@ -48,14 +49,14 @@ goal_there r e p = trait_goal r.context.trees e p
 -- lists are of the first evaluator's context. The trees of the last evaluator, which such a call left, are the first of these.
 pub data IsStepStop (first : Evaluator) (ts : List Tree) (T : GoalTable Via) (s : Stop) : Type 0 where
   step_asking : (last : Evaluator) → Extends last.context.trees ts → StopsSomehow rounds_shown first last s → IsStepStop first ts T s
-  step_key : (e : ParamEnv) (p : TraitPredicate) → IsThere first e p → IsGoalKeyStop ts (state first) (goal_there first e p) s → IsStepStop first ts T s
-  step_run : (e : ParamEnv) (p : TraitPredicate) → IsThere first e p → IsRunStop ts first (goal_there first e p) T s → IsStepStop first ts T s
-  step_computing : (e : ParamEnv) (p : TraitPredicate) (last : Evaluator) → IsThere first e p → Extends last.context.trees ts
+  step_key : (e : ParamEnv) (p : TraitPredicate) → IsThere ts first e p → IsGoalKeyStop ts (state first) (goal_there first e p) s → IsStepStop first ts T s
+  step_run : (e : ParamEnv) (p : TraitPredicate) → IsThere ts first e p → IsRunStop ts first (goal_there first e p) T s → IsStepStop first ts T s
+  step_computing : (e : ParamEnv) (p : TraitPredicate) (last : Evaluator) → IsThere ts first e p → Extends last.context.trees ts
       → IsGoalStop rounds_shown first last (goal_there first e p) s → IsStepStop first ts T s
-  step_normalizing : (env : ParamEnv) (alias : AliasTy) (effort : Effort) → IsProjection first.context env alias → IsNormalized ts first env alias effort T (Err s) → IsStepStop first ts T s
-  step_giving : (env : ParamEnv) (alias : AliasTy) (x : CanonicalResponse) → IsProjection first.context env alias → IsResponse first.context.trees x
+  step_normalizing : (env : ParamEnv) (alias : AliasTy) (effort : Effort) → Extends first.context.trees ts → IsProjection first.context env alias → IsNormalized ts first env alias effort T (Err s) → IsStepStop first ts T s
+  step_giving : (env : ParamEnv) (alias : AliasTy) (x : CanonicalResponse) → Extends first.context.trees ts → IsProjection first.context env alias → IsResponse first.context.trees x
       → IsGivingNormalStop ts (listing first) (state first) (goal_of_trait first.context env alias) (response_of first.context.trees x) s → IsStepStop first ts T s
-  step_numbering : (xs : Args) → IsArgs first.context.trees xs → IsCanonicalStop ts (args_forest first.context.trees xs) s → IsStepStop first ts T s
+  step_numbering : (xs : Args) → Extends first.context.trees ts → IsArgs first.context.trees xs → IsCanonicalStop ts (args_forest first.context.trees xs) s → IsStepStop first ts T s
 
 -- It is the evaluator later on: what is declared and given is the same, by more trees; and its table comes by steps from the one that was there.
 -- What is known, what is noted and the open probes may be others.

@@ -32,7 +32,7 @@ returns-clause-answered c = λ stable.
     plain-there (verdict_in (sure_of r) k) (verdict_in (table_of r) k) c.in_ok-leaks.leaks c.if-leaks.false same yes
 
 pub returns-in_err-verdict-clause-cause : goal.returns-in_err-verdict-clause-cause
-returns-in_err-verdict-clause-cause c = passed-on (IsOverlapStop c.args.rounds.now c.entry.new.self) c.from_residual.result c.in_err-verdict.field-0.0 c.from_residual.ensures.1 (step-stop (later-refl c.args.rounds.now) (step_key c.args.env c.args.predicate (there c.args.env c.args.predicate (later-refl c.args.rounds.now) c.requires.env c.requires.args) c.in_err-verdict.ensures.cause))
+returns-in_err-verdict-clause-cause c = passed-on (IsOverlapStop c.args.rounds.now c.entry.new.self) c.from_residual.result c.in_err-verdict.field-0.0 c.from_residual.ensures.1 (step-stop (later-refl c.args.rounds.now) (step_key c.args.env c.args.predicate (there c.args.env c.args.predicate (later-refl c.args.rounds.now) c.requires.env c.requires.args c.entry.ensures.stays.grows.kept) c.in_err-verdict.ensures.cause))
 
 pub returns-in_err-may_rest_on_part-clause-cause : goal.returns-in_err-may_rest_on_part-clause-cause
 returns-in_err-may_rest_on_part-clause-cause c = passed-on (IsOverlapStop c.args.rounds.now c.entry_leaks.new.self) c.from_residual-in_err-may_rest_on_part.result c.in_err-may_rest_on_part.field-0.0 c.from_residual-in_err-may_rest_on_part.ensures.1 (asking-stop (later-refl c.args.rounds.now) (memory-somehow c.in_err-may_rest_on_part.ensures.cause))
@@ -77,7 +77,7 @@ returns-in_err-leaks-clause-table c = c.entry_leaks.ensures.table ∙ c.entry.en
 pub returns-in_err-leaks-clause-cause : goal.returns-in_err-leaks-clause-cause
 returns-in_err-leaks-clause-cause c =
     passed-on (IsOverlapStop c.args.rounds.now c.entry_leaks.new.self) c.from_residual-in_err-leaks.result c.in_err-leaks.field-0.0 c.from_residual-in_err-leaks.ensures.1
-    (step-stop (later-steps (stays-same c.entry.ensures.stays c.entry.ensures.table)) (step_key c.args.env c.args.predicate (there c.args.env c.args.predicate (later-steps (stays-same c.entry.ensures.stays c.entry.ensures.table)) c.requires.env c.requires.args) c.in_err-leaks.ensures.cause))
+    (step-stop (later-steps (stays-same c.entry.ensures.stays c.entry.ensures.table)) (step_key c.args.env c.args.predicate (there c.args.env c.args.predicate (later-steps (stays-same c.entry.ensures.stays c.entry.ensures.table)) c.requires.env c.requires.args c.entry_leaks.ensures.stays.grows.kept) c.in_err-leaks.ensures.cause))
 
 pub returns-then-leaks-clause-stays : goal.returns-then-leaks-clause-stays
 returns-then-leaks-clause-stays c = stays-trans (stays-same c.entry.ensures.stays c.entry.ensures.table) (stays-same c.entry_leaks.ensures.stays c.entry_leaks.ensures.table)

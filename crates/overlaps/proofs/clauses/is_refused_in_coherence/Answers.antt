@@ -79,13 +79,13 @@ pub returns-in_err-may_decide-clause-cause : goal.returns-in_err-may_decide-clau
 returns-in_err-may_decide-clause-cause c = passed-on (IsOverlapStop c.args.rounds.now c.may_decide.new.rounds) c.from_residual.result c.in_err-may_decide.field-0.0 c.from_residual.ensures.1 (c.in_err-may_decide.ensures.cause)
 
 pub returns-in_err-may_be_run-clause-cause : goal.returns-in_err-may_be_run-clause-cause
-returns-in_err-may_be_run-clause-cause c = passed-on (IsOverlapStop c.args.rounds.now c.may_be_run.new.self) c.from_residual-in_err-may_be_run.result c.in_err-may_be_run.field-0.0 c.from_residual-in_err-may_be_run.ensures.1 (step-stop (later-steps c.may_decide.ensures.stays) (step_key c.args.env c.args.predicate (there c.args.env c.args.predicate (later-steps c.may_decide.ensures.stays) c.requires.env c.requires.args) c.in_err-may_be_run.ensures.cause))
+returns-in_err-may_be_run-clause-cause c = passed-on (IsOverlapStop c.args.rounds.now c.may_be_run.new.self) c.from_residual-in_err-may_be_run.result c.in_err-may_be_run.field-0.0 c.from_residual-in_err-may_be_run.ensures.1 (step-stop (later-steps c.may_decide.ensures.stays) (step_key c.args.env c.args.predicate (there c.args.env c.args.predicate (later-steps c.may_decide.ensures.stays) c.requires.env c.requires.args c.may_be_run.ensures.stays.grows.kept) c.in_err-may_be_run.ensures.cause))
 
 pub returns-in_err-run_by-clause-cause : goal.returns-in_err-run_by-clause-cause
-returns-in_err-run_by-clause-cause c = passed-on (IsOverlapStop c.args.rounds.now c.run_by.new.self) c.from_residual-in_err-run_by.result c.in_err-run_by.field-0.0 c.from_residual-in_err-run_by.ensures.1 (step-stop (later-steps (stays-trans c.may_decide.ensures.stays (stays-same c.may_be_run.ensures.stays c.may_be_run.ensures.table))) (step_run c.args.env c.args.predicate (there c.args.env c.args.predicate (later-steps (stays-trans c.may_decide.ensures.stays (stays-same c.may_be_run.ensures.stays c.may_be_run.ensures.table))) c.requires.env c.requires.args) c.in_err-run_by.ensures.cause))
+returns-in_err-run_by-clause-cause c = passed-on (IsOverlapStop c.args.rounds.now c.run_by.new.self) c.from_residual-in_err-run_by.result c.in_err-run_by.field-0.0 c.from_residual-in_err-run_by.ensures.1 (step-stop (later-steps (stays-trans c.may_decide.ensures.stays (stays-same c.may_be_run.ensures.stays c.may_be_run.ensures.table))) (step_run c.args.env c.args.predicate (there c.args.env c.args.predicate (later-steps (stays-trans c.may_decide.ensures.stays (stays-same c.may_be_run.ensures.stays c.may_be_run.ensures.table))) c.requires.env c.requires.args c.run_by.ensures.stays.grows.kept) c.in_err-run_by.ensures.cause))
 
 pub returns-in_err-is_refused-clause-cause : goal.returns-in_err-is_refused-clause-cause
-returns-in_err-is_refused-clause-cause c = passed-on (IsOverlapStop c.args.rounds.now c.is_refused.new.ecx) c.from_residual-in_err-is_refused.result c.in_err-is_refused.field-0.0 c.from_residual-in_err-is_refused.ensures.1 (step-stop (later-steps (stays-trans c.may_decide.ensures.stays (stays-trans (stays-same c.may_be_run.ensures.stays c.may_be_run.ensures.table) (stays-run _ _ c.args.effort c.run_by.result c.run_by.ensures.stays c.run_by.ensures.ran c.run_by.ensures.stopped)))) (step_computing c.args.env c.args.predicate c.is_refused.new.ecx (there c.args.env c.args.predicate (later-steps (stays-trans c.may_decide.ensures.stays (stays-trans (stays-same c.may_be_run.ensures.stays c.may_be_run.ensures.table) (stays-run _ _ c.args.effort c.run_by.result c.run_by.ensures.stays c.run_by.ensures.ran c.run_by.ensures.stopped)))) c.requires.env c.requires.args) (grows-refl c.is_refused.new.ecx.context).kept c.in_err-is_refused.ensures.cause))
+returns-in_err-is_refused-clause-cause c = passed-on (IsOverlapStop c.args.rounds.now c.is_refused.new.ecx) c.from_residual-in_err-is_refused.result c.in_err-is_refused.field-0.0 c.from_residual-in_err-is_refused.ensures.1 (step-stop (later-steps (stays-trans c.may_decide.ensures.stays (stays-trans (stays-same c.may_be_run.ensures.stays c.may_be_run.ensures.table) (stays-run _ _ c.args.effort c.run_by.result c.run_by.ensures.stays c.run_by.ensures.ran c.run_by.ensures.stopped)))) (step_computing c.args.env c.args.predicate c.is_refused.new.ecx (there c.args.env c.args.predicate (later-steps (stays-trans c.may_decide.ensures.stays (stays-trans (stays-same c.may_be_run.ensures.stays c.may_be_run.ensures.table) (stays-run _ _ c.args.effort c.run_by.result c.run_by.ensures.stays c.run_by.ensures.ran c.run_by.ensures.stopped)))) c.requires.env c.requires.args c.is_refused.ensures.kept.grows.kept) (grows-refl c.is_refused.new.ecx.context).kept c.in_err-is_refused.ensures.cause))
 
 pub returns-clause-cause : goal.returns-clause-cause
 returns-clause-cause c = so-err c.refuses_instances.result (λ s k. asking-stop (later-refl c.args.rounds.now) (memory-somehow k)) c.refuses_instances.ensures.cause

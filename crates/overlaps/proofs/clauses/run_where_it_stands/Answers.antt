@@ -33,10 +33,10 @@ returns-clause-tried c =
     c.in_ok-_verdict.ensures.ran
 
 pub returns-in_err-may_be_run-clause-cause : goal.returns-in_err-may_be_run-clause-cause
-returns-in_err-may_be_run-clause-cause c = passed-on (IsOverlapStop c.args.rounds.now c.may_be_run.new.self) c.from_residual.result c.in_err-may_be_run.field-0.0 c.from_residual.ensures.1 (step-stop (later-refl c.args.rounds.now) (step_key c.args.env c.args.predicate (there c.args.env c.args.predicate (later-refl c.args.rounds.now) c.requires.env c.requires.args) c.in_err-may_be_run.ensures.cause))
+returns-in_err-may_be_run-clause-cause c = passed-on (IsOverlapStop c.args.rounds.now c.may_be_run.new.self) c.from_residual.result c.in_err-may_be_run.field-0.0 c.from_residual.ensures.1 (step-stop (later-refl c.args.rounds.now) (step_key c.args.env c.args.predicate (there c.args.env c.args.predicate (later-refl c.args.rounds.now) c.requires.env c.requires.args c.may_be_run.ensures.stays.grows.kept) c.in_err-may_be_run.ensures.cause))
 
 pub returns-in_err-_verdict-clause-cause : goal.returns-in_err-_verdict-clause-cause
-returns-in_err-_verdict-clause-cause c = passed-on (IsOverlapStop c.args.rounds.now c.run_by.new.self) c.from_residual-in_err-_verdict.result c.in_err-_verdict.field-0.0 c.from_residual-in_err-_verdict.ensures.1 (step-stop (later-steps (stays-same c.may_be_run.ensures.stays c.may_be_run.ensures.table)) (step_run c.args.env c.args.predicate (there c.args.env c.args.predicate (later-steps (stays-same c.may_be_run.ensures.stays c.may_be_run.ensures.table)) c.requires.env c.requires.args) c.in_err-_verdict.ensures.cause))
+returns-in_err-_verdict-clause-cause c = passed-on (IsOverlapStop c.args.rounds.now c.run_by.new.self) c.from_residual-in_err-_verdict.result c.in_err-_verdict.field-0.0 c.from_residual-in_err-_verdict.ensures.1 (step-stop (later-steps (stays-same c.may_be_run.ensures.stays c.may_be_run.ensures.table)) (step_run c.args.env c.args.predicate (there c.args.env c.args.predicate (later-steps (stays-same c.may_be_run.ensures.stays c.may_be_run.ensures.table)) c.requires.env c.requires.args c.run_by.ensures.stays.grows.kept) c.in_err-_verdict.ensures.cause))
 
 pub returns-in_err-may_be_run-clause-stays : goal.returns-in_err-may_be_run-clause-stays
 returns-in_err-may_be_run-clause-stays c = stays-same c.may_be_run.ensures.stays c.may_be_run.ensures.table

@@ -39,7 +39,7 @@ pub returns-in_err-args-clause-cause : goal.returns-in_err-args-clause-cause
 returns-in_err-args-clause-cause c = passed-on (IsOverlapStop c.args.rounds.now c.resolve_args_if_possible.new.self) c.from_residual.result c.in_err-args.field-0.0 c.from_residual.ensures.1 (asking-stop (later-refl c.args.rounds.now) (asked-somehow (resolve (args_forest c.args.rounds.now.context.trees c.args.first.now.header)) c.resolve_args_if_possible.ensures.kept c.in_err-args.ensures.cause))
 
 pub returns-in_err-args-2-clause-cause : goal.returns-in_err-args-2-clause-cause
-returns-in_err-args-2-clause-cause c = passed-on (IsOverlapStop c.args.rounds.now c.canonical_args.new.self) c.from_residual-in_err-args-2.result c.in_err-args-2.field-0.0 c.from_residual-in_err-args-2.ensures.1 (step-stop (later-kept c.resolve_args_if_possible.ensures.kept) (step_numbering c.in_ok-args.args c.in_ok-args.ensures.sort c.in_err-args-2.ensures.cause))
+returns-in_err-args-2-clause-cause c = passed-on (IsOverlapStop c.args.rounds.now c.canonical_args.new.self) c.from_residual-in_err-args-2.result c.in_err-args-2.field-0.0 c.from_residual-in_err-args-2.ensures.1 (step-stop (later-kept c.resolve_args_if_possible.ensures.kept) (step_numbering c.in_ok-args.args c.canonical_args.ensures.stays.grows.kept c.in_ok-args.ensures.sort c.in_err-args-2.ensures.cause))
 
 pub returns-in_err-args-clause-sure : goal.returns-in_err-args-clause-sure
 returns-in_err-args-clause-sure c = (sure-kept c.resolve_args_if_possible.ensures.kept c.resolve_args_if_possible.ensures.same).sure

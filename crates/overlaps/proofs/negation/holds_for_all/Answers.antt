@@ -15,7 +15,7 @@ returns-then-not-stands_here-clause-stays c = stays-refl c.args.rounds.now
 pub returns-in_err-verdict-clause-cause : goal.returns-in_err-verdict-clause-cause
 returns-in_err-verdict-clause-cause c =
     passed-on (IsOverlapStop c.args.rounds.now c.entry.new.self) c.from_residual.result c.in_err-verdict.field-0.0 c.from_residual.ensures.1
-    (step-stop (later-refl c.args.rounds.now) (step_key c.args.env c.args.predicate (there c.args.env c.args.predicate (later-refl c.args.rounds.now) c.requires.env c.requires.args) c.in_err-verdict.ensures.cause))
+    (step-stop (later-refl c.args.rounds.now) (step_key c.args.env c.args.predicate (there c.args.env c.args.predicate (later-refl c.args.rounds.now) c.requires.env c.requires.args c.entry.ensures.stays.grows.kept) c.in_err-verdict.ensures.cause))
 
 pub returns-in_err-leaks-clause-cause : goal.returns-in_err-leaks-clause-cause
 returns-in_err-leaks-clause-cause c =

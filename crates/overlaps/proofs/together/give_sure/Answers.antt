@@ -18,4 +18,4 @@ returns-in-Err-Stop-clause-stays c = known-kept c.give_normal.ensures.kept
 pub returns-in-Err-Stop-clause-cause : goal.returns-in-Err-Stop-clause-cause
 returns-in-Err-Stop-clause-cause c =
     let r = c.args.rounds.now in
-    step-stop (later-refl r) (step_giving c.args.env c.args.alias c.args.response.now c.requires.projection c.requires.response (c.in-Err-Stop.ensures.cause c.in-Err-Stop.stop c.in-Err-Stop.field-0-is))
+    step-stop (later-refl r) (step_giving c.args.env c.args.alias c.args.response.now c.give_normal.ensures.kept.grows.kept c.requires.projection c.requires.response (c.in-Err-Stop.ensures.cause c.in-Err-Stop.stop c.in-Err-Stop.field-0-is))

@@ -19,7 +19,7 @@ pub returns-in_err-run_by-clause-cause : goal.returns-in_err-run_by-clause-cause
 returns-in_err-run_by-clause-cause c =
     let r = c.args.rounds.now in
     passed-on (IsOverlapStop r c.run_by.new.self) c.from_residual.result c.in_err-run_by.field-0.0 c.from_residual.ensures.1
-    (step-stop (later-steps (stays-refl r)) (step_run c.args.env c.args.predicate (there c.args.env c.args.predicate (later-steps (stays-refl r)) c.requires.goal.env c.requires.goal.arguments) c.in_err-run_by.ensures.cause))
+    (step-stop (later-steps (stays-refl r)) (step_run c.args.env c.args.predicate (there c.args.env c.args.predicate (later-steps (stays-refl r)) c.requires.goal.env c.requires.goal.arguments c.run_by.ensures.stays.grows.kept) c.in_err-run_by.ensures.cause))
 
 pub entry_leaks-requires : goal.entry_leaks-requires
 entry_leaks-requires c = (trait-goal-kept _ _ _ _ c.run_by.ensures.stays.grows c.requires.goal).0
@@ -30,7 +30,7 @@ returns-in_err-leaks-in-Yes-clause-stays c = stays-trans (stays-run _ _ c.args.e
 pub returns-in_err-leaks-in-Yes-clause-cause : goal.returns-in_err-leaks-in-Yes-clause-cause
 returns-in_err-leaks-in-Yes-clause-cause c =
     passed-on (IsOverlapStop c.args.rounds.now c.entry_leaks.new.self) c.from_residual-in_err-leaks-in-Yes.result c.in_err-leaks-in-Yes.field-0.0 c.from_residual-in_err-leaks-in-Yes.ensures.1
-    (step-stop (later-steps (stays-run _ _ c.args.effort c.run_by.result c.run_by.ensures.stays c.run_by.ensures.ran c.run_by.ensures.stopped)) (step_key c.args.env c.args.predicate (there c.args.env c.args.predicate (later-steps (stays-run _ _ c.args.effort c.run_by.result c.run_by.ensures.stays c.run_by.ensures.ran c.run_by.ensures.stopped)) c.requires.goal.env c.requires.goal.arguments) c.in_err-leaks-in-Yes.ensures.cause))
+    (step-stop (later-steps (stays-run _ _ c.args.effort c.run_by.result c.run_by.ensures.stays c.run_by.ensures.ran c.run_by.ensures.stopped)) (step_key c.args.env c.args.predicate (there c.args.env c.args.predicate (later-steps (stays-run _ _ c.args.effort c.run_by.result c.run_by.ensures.stays c.run_by.ensures.ran c.run_by.ensures.stopped)) c.requires.goal.env c.requires.goal.arguments c.entry_leaks.ensures.stays.grows.kept) c.in_err-leaks-in-Yes.ensures.cause))
 
 pub returns-in-Yes-clause-stays : goal.returns-in-Yes-clause-stays
 returns-in-Yes-clause-stays c = stays-trans (stays-run _ _ c.args.effort c.run_by.result c.run_by.ensures.stays c.run_by.ensures.ran c.run_by.ensures.stopped) (stays-same c.entry_leaks.ensures.stays c.entry_leaks.ensures.table)

@@ -45,7 +45,7 @@ returns-in_err-may_be_run-clause-cause c =
     let is : c.trait_predicate-predicate.result ≡ trait_predicate old c.args.alias = c.trait_predicate-predicate.ensures ∙ ap (λ (y : Context). trait_predicate y c.args.alias) c.cx-2.ensures in
     let args = subst (λ (q : TraitPredicate). IsArgs now.trees q.trait_ref.args) (sym is) (args-kept old now c.args.alias.args grows (alias-args old.trees c.args.alias c.requires.alias)).0 in
     passed-on (IsOverlapStop c.args.rounds.now c.may_be_run.new.self) c.from_residual-in_err-may_be_run.result c.in_err-may_be_run.field-0.0 c.from_residual-in_err-may_be_run.ensures.1
-    (step-stop (later-steps c.verdict_here.ensures.stays) (step_key c.args.env c.trait_predicate-predicate.result ((env-kept old now c.args.env grows c.requires.env).0, args) c.in_err-may_be_run.ensures.cause))
+    (step-stop (later-steps c.verdict_here.ensures.stays) (step_key c.args.env c.trait_predicate-predicate.result (c.may_be_run.ensures.stays.grows.kept, (env-kept old now c.args.env grows c.requires.env).0, args) c.in_err-may_be_run.ensures.cause))
 
 pub returns-then-not-branch-clause-stays : goal.returns-then-not-branch-clause-stays
 returns-then-not-branch-clause-stays c = stays-trans c.verdict_here.ensures.stays (stays-same c.may_be_run.ensures.stays c.may_be_run.ensures.table)
@@ -156,4 +156,4 @@ returns-clause-cause c =
     = subst (λ (y : Context). Takes (world y) (kind_tree y.trees (K.Alias alias))) c.cx.ensures (c.args_fit.ensures.0 c.if-not-args_fit.false) in
     let projection = projection-later old now c.args.env alias p stays.grows c.requires.alias c.requires.projection takes is
     (trait-goal-kept asked now c.args.env p c.is_proved.ensures.stays.grows c.may_be_run.ensures.goal).0 in
-    normalizing-stop c.args.rounds.now c.is_proved.new.rounds c.normalize.new.self c.args.env alias c.args.effort c.normalize.result (later-steps stays) projection c.normalize.ensures.normalized
+    normalizing-stop c.args.rounds.now c.is_proved.new.rounds c.normalize.new.self c.args.env alias c.args.effort c.normalize.result (later-steps stays) c.normalize.ensures.stays.grows projection c.normalize.ensures.normalized
