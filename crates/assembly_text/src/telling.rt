@@ -15,7 +15,7 @@ use crate::asking::Asking;
 use crate::considering::{Considered, Listed, consider};
 use crate::explaining::{AskedGoal, Explained, Reasons, explain};
 use crate::printing::word_before_value;
-use crate::refusals::print_refusal;
+use crate::refusals::{print_asking, print_refusal};
 use assembly_notation::faults::Fault;
 use assembly_notation::types::{MAX_DEPTH, Scope, UNSPELLED};
 use assembly_notation::words::Words;
@@ -309,10 +309,11 @@ fn print_cause(scope: &Scope<'_, Cx>, goal: AskedGoal, text: &mut String) -> Res
     if goal.is_refused() {
         return print_refusal(scope, goal.clause, text);
     }
-    if let Some(openness) = goal.openness {
-        text.push_str(openness.words())?;
+    match goal.openness {
+        Some(openness) => Ok(text.push_str(openness.words())?),
+        None if !goal.is_final => print_asking(scope, goal.clause, text),
+        None => Ok(()),
     }
-    Ok(())
 }
 
 /// Adds a number, from 1 on, and the goal.

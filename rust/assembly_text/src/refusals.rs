@@ -15,7 +15,7 @@ use ir_context::decl::UnifyCount;
 use ir_context::decl::context::Cx;
 use ir_trees::decl::contents::{ImplId, ImplPolarity, LangItem};
 use ir_trees::ir::heads::Flag;
-use ir_trees::ir::kinds::{Args, Clause, PredicatePolarity, TraitId, TraitPredicate};
+use ir_trees::ir::kinds::{Args, Clause, ClauseKind, PredicatePolarity, TraitId, TraitPredicate};
 use ir_trees::ir::stop::Stop;
 use ir_trees::ir::trees::Trees;
 use ir_trees::ir::unify::RightSide;
@@ -91,6 +91,46 @@ pub(crate) fn print_serving(
         text.push_str(", and impl ")?;
         text.push_str(name_of_impl(scope, of))?;
         text.push_str(" may hold")?;
+    }
+    Ok(())
+}
+
+/// Whether one of the clauses says what an associated type is.
+fn say_of_projection(cx: &Cx, clauses: &[Clause]) -> bool
+{
+    for number in 0..clauses.len() {
+        if let ClauseKind::Projection(_) = cx.clause(clauses[number]).value {
+            return true;
+        }
+    }
+    false
+}
+
+/// Whether a where clause of the impl says what an associated type is.
+fn asks_for_type(cx: &Cx, of: ImplId) -> bool {
+    match cx.impl_contents(of) {
+        Some(contents) => say_of_projection(cx, contents.wheres.as_slice()),
+        None => false,
+    }
+}
+
+/// Adds that the first declared impl which may be for what the clause says of a trait asks what an associated type is, if it does. No goal finds
+/// that out, so what the clause says may stay open.
+pub(crate) fn print_asking(
+    scope: &Scope<'_, Cx>,
+    clause: Clause,
+    text: &mut String,
+) -> Result<(), Stop>
+{
+    let Some(goal) = predicate_in(&scope.maker, clause) else {
+        return Ok(());
+    };
+    if let Some(of) = serving_impl(&scope.maker, goal)? {
+        if asks_for_type(&scope.maker, of) {
+            text.push_str(" because impl ")?;
+            text.push_str(name_of_impl(scope, of))?;
+            text.push_str(" asks what an associated type is")?;
+        }
     }
     Ok(())
 }
