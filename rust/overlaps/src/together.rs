@@ -383,7 +383,7 @@ fn is_refused_under_binder(
     answer
 }
 
-/// A goal whose clause binds something is left, unless what it says of a trait is refused.
+/// A goal whose clause says something of a trait and binds regions is left, unless it is refused for placeholders in their place.
 fn try_for_all(
     alloc: Global,
     rounds: &mut Rounds,
@@ -424,13 +424,13 @@ fn try_with_values(
     if let Some(said) = said_of_projection(rounds.cx(), clause) {
         return make_term_equal(alloc, rounds, goal, said, effort, left);
     }
+    let Some(predicate) = predicate_in(rounds.cx(), clause) else {
+        return settle(alloc, rounds, goal, left);
+    };
     if binds(rounds.cx(), clause) {
         return try_for_all(alloc, rounds, goal, effort, left);
     }
-    match predicate_in(rounds.cx(), clause) {
-        Some(predicate) => try_trait(alloc, rounds, goal, predicate, effort, left),
-        None => settle(alloc, rounds, goal, left),
-    }
+    try_trait(alloc, rounds, goal, predicate, effort, left)
 }
 
 /// A goal is taken up with all values put in, if it asks without an environment, as this one is; else it is left.
@@ -591,7 +591,8 @@ fn apart_aside(
 /// goals then, which are taken up in order, again and again while that changes one of them, but eight times at most. A projection is normalised
 /// by that effort, and where a sure answer says what it is, that stands in its place. A goal of a trait is run by that effort, unless the
 /// table has an answer for it. A refusal that decides refuses all, and so does an equation that can't be; what a Yes gives is known to the
-/// others. A goal of a trait that may lead to an auto trait with an impl for some types of a head alone gives nothing.
+/// others. A goal of a trait that may lead to an auto trait with an impl for some types of a head alone gives nothing. A clause of a trait that
+/// binds regions is run for placeholders in their place; if that is refused, all is, and else the clause stays.
 ///
 /// It is asked in coherence where the evaluator opens aliases, and else it is a no, as it is where the numbers aren't those of two impls of one
 /// trait, and where their headers can't be made equal. Of a no nothing is said. All that is known, what is pending and the open probes stay,

@@ -1,5 +1,5 @@
 -- Rounds over the table of an evaluator, by its judge.
-use Rattle.std.specs.Prelude.{◌≡◌, ◌<◌, ◌≤◌, ℕ, zero, suc, true, false, Option, Some, None, List, [], ◌∷◌, ◌++◌, length, slice_get, Result, Ok, Err}
+use Rattle.std.specs.Prelude.{◌≡◌, ◌<◌, ◌≤◌, ◌⊎◌, ℕ, zero, suc, true, false, Option, Some, None, List, [], ◌∷◌, ◌++◌, length, slice_get, Result, Ok, Err}
 use Rattle.std.specs.Option.{option_map}
 use Rattle.ir_trees.specs.declared.ir.stop.Stop.{Stop}
 use Rattle.ir_trees.specs.declared.ir.stop.Stop.TheVariants.{EvaluatorLimit}
@@ -95,6 +95,10 @@ pub record StaysBesideTable (old new : Evaluator) : Type 0 where
 pub data ComesFrom (r : Evaluator) (T : GoalTable Via) : GoalTable Via → Type 0 where
   as_it_is : ComesFrom r T T
   one_step : {U V : GoalTable Via} → ComesFrom r T U → IsStep (computing r) U V → ComesFrom r T V
+
+-- The table is as it was, or the goal of that key is entered in it.
+abbrev pub MayBeEntered : GoalTable Via → Key → GoalTable Via → Type 0
+MayBeEntered T k U = (U ≡ T) ⊎ (U ≡ entered_in T k)
 
 -- What a round or a step has for a place of the table: nothing where what is there may stay, and else the verdict of what the goal comes
 -- to, which isn't final yet.

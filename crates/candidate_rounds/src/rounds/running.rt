@@ -21,7 +21,7 @@ ghost use Rattle.candidate_rounds.specs.Evaluators.Interface.{fixed, judge_of};
 ghost use Rattle.candidate_rounds.specs.Calls.Starting.{started};
 ghost use Rattle.candidate_rounds.specs.Calls.Writing.{ChangeTableOf};
 ghost use Rattle.candidate_rounds.specs.Evaluators.Stopping.{IsGoalKeyStop, IsTreeStop, accounts, clause_saying};
-ghost use Rattle.candidate_rounds.specs.Table.Running.{AreWritten, IsAnswer, answered_as, IsComputingStop, IsDoneBelow, IsDerivedFor, IsEnteringStop, IsLeftStopped, IsLeftUnsettled, IsPlaceOf, IsRoundStop, IsRunStop, IsWrittenAt, IsWrittenFor, PutsOffOneAtMost, StaysBesideTable, computing, told, verdict_at};
+ghost use Rattle.candidate_rounds.specs.Table.Running.{AreWritten, IsAnswer, answered_as, IsComputingStop, IsDoneBelow, IsDerivedFor, IsEnteringStop, IsLeftStopped, IsLeftUnsettled, IsPlaceOf, IsRoundStop, IsRunStop, IsWrittenAt, IsWrittenFor, MayBeEntered, PutsOffOneAtMost, StaysBesideTable, computing, told, verdict_at};
 ghost use Rattle.candidate_rounds.specs.Table.Efforts.{IsEffort, IsLeftBy, Runs};
 ghost use Rattle.candidate_rounds.specs.Table.Entries.{has_one, all_written_into, new_entry, write_verdict};
 ghost use Rattle.derivations.specs.DerivedTables.{TableIsDerived};
@@ -787,7 +787,7 @@ impl Rounds {
         ensures stays { StaysBesideTable self.old self.new }
         ensures settled { OnOk result (IsSettled (computing self.old) (key_at (state self.old) (trait_goal self.old.context.trees param_env predicate)) 1 (table_of self.old) (table_of self.new)) }
         ensures last { let k = key_at (state self.old) (trait_goal self.old.context.trees param_env predicate) in IfOk result (λ b. IsTrue b → IsAtRest (computing self.old) k (table_of self.new)) }
-        ensures stopped { let k = key_at (state self.old) (trait_goal self.old.context.trees param_env predicate) in let T = table_of self.old in OnErr result ((table_of self.new ≡ T) ⊎ (table_of self.new ≡ entered_in T k)) }
+        ensures stopped { let k = key_at (state self.old) (trait_goal self.old.context.trees param_env predicate) in OnErr result (MayBeEntered (table_of self.old) k (table_of self.new)) }
         ensures asked { self.new.goals.asked ≡ [] }
         ensures asks { self.new.goals.asks ≡ false }
         ensures derived { TableIsDerived self.new.context (listing self.new) (table_of self.new) }
