@@ -3,10 +3,7 @@
 
     definitions.py             says of each file of specs how much of it is to be believed, and names what isn't
     definitions.py --files     lists the files to be believed: those of which a definition is reached
-    definitions.py --section   prints the section of `docs/DEFINITIONS.md` that lists them
-    definitions.py --check     compares that section with the files, and looks at the citations; status 1 where one is missing or extra or
-                               wrong, which it names
-    definitions.py --citations prints the citations of the documents that are wrong: where, what and in which file, and where that stands
+    definitions.py --check     prints the citations of the documents that are wrong: where, what and in which file, and where that stands
     definitions.py --why NAME  prints a shortest path from a public contract to each definition of that name
     definitions.py --of CALL   counts the definitions that the clauses of a public call reach, their lines and files; with --files, names these
 
@@ -34,11 +31,6 @@ import types
 
 ROOT = os.path.dirname(os.path.dirname(os.path.abspath(__file__)))
 CRATES = "ir_trees ir_context ir_folds ir_builder candidate_eval candidate_assembly rounds_judge derivations candidate_rounds assembly_text projection_goals overlaps examples".split()
-DOCUMENT = os.path.join(ROOT, "docs", "DEFINITIONS.md")
-HEADING = "## The files to be believed"
-INTRODUCTION = """The files of each crate's `specs/` of which public contracts reach a definition: a reader must believe these, and what
-they name of the standard library. The other files serve the contracts of private calls, or proofs. `bench/definitions.py` made this list.
-With `--check` it says whether the list is right, and without it which definitions of each file are reached."""
 DOCUMENTS = [os.path.join(ROOT, "README.md"), *sorted(glob.glob(os.path.join(ROOT, "docs", "*.md")))]
 STD_PROOFS = {"coded"}  # members of traits of the standard library that are proofs
 WORD = r"""[^\s(){}\[\];,."]+"""
@@ -323,24 +315,6 @@ def show(specs, believed, private):
             print(textwrap.fill(said, 140, subsequent_indent="    ", break_on_hyphens=False))
 
 
-def section(files):
-    """The section of the documents: a line for each crate, folded, that begins with its name."""
-    lines = [HEADING, "", INTRODUCTION, ""]
-    return "\n".join([*lines, *by_crate(files)])
-
-
-def check(files):
-    """Compares the section with the files."""
-    listed = set()
-    for part in re.split(r"^- ", read(DOCUMENT).partition(HEADING)[2].partition("\n## ")[0], flags=re.M)[1:]:
-        crate = re.match(r"`(\w+)`:", part)
-        listed.update((crate[1] if crate else "", path) for path in re.findall(r"`specs/([\w/]+)`", part))
-    for what, found in ("missing", set(files) - listed), ("extra", listed - set(files)):
-        for crate, path in sorted(found):
-            print(f"{what}: {crate}/specs/{path}")
-    return 0 if listed == set(files) else 1
-
-
 def names_in(path):
     """What a file declares: definitions and proofs, constructors and fields."""
     found = set()
@@ -430,13 +404,11 @@ def count(specs, contracts, call, names_files):
 def main():
     parser = argparse.ArgumentParser(description=__doc__, formatter_class=argparse.RawDescriptionHelpFormatter)
     parser.add_argument("--files", action="store_true", help="list the files to be believed")
-    parser.add_argument("--section", action="store_true", help="print the section of the documents")
-    parser.add_argument("--check", action="store_true", help="compare the section with the files, and look at the citations")
-    parser.add_argument("--citations", action="store_true", help="print the citations of the documents that are wrong")
+    parser.add_argument("--check", action="store_true", help="print the citations of the documents that are wrong; status 1 where there is one")
     parser.add_argument("--why", metavar="NAME", help="print a path to a definition")
     parser.add_argument("--of", metavar="CALL", help="count what the clauses of a public call reach")
     given = parser.parse_args()
-    if given.citations:
+    if given.check:
         return citations()
     specs, contracts = Specs(), list(Code().contracts())
     believed = specs.reached([it for is_public, *it in contracts if is_public])
@@ -446,11 +418,7 @@ def main():
         return count(specs, [it for is_public, *it in contracts if is_public], given.of, given.files)
     if given.why:
         return why(specs, believed, private, given.why)
-    if given.check:
-        return max(check(files), citations())
-    if given.section:
-        print(section(files))
-    elif given.files:
+    if given.files:
         print("\n".join(f"{crate}/specs/{path}" for crate, path in files))
     else:
         show(specs, believed, private)

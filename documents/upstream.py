@@ -1,7 +1,7 @@
 #!/usr/bin/env python3
 """Whether docs/UPSTREAM.md is up to date.
 
-`python3 bench/upstream.py` checks each place that the document names: the module is a file or a folder of the crate's sources, and what it
+`python3 documents/upstream.py` checks each place that the document names: the module is a file or a folder of the crate's sources, and what it
 ends with is a function, a type or a module there. With `--files FOLDER`, where the four upstream files lie, each of their functions must have a row in
 its section, and each row a function. It ends with status 1 where something is missing.
 """

@@ -1,16 +1,20 @@
 #!/usr/bin/env python3
-"""Which rows and tests try which call.
+"""Which rows and tests try which public call.
 
-`python3 bench/tried.py` takes the calls that `docs/CONTRACTS.md` names in its tables and prints, as a table, each one that can stop (its
-answer names `Stop`, `DeclFault` or what holds one) with the files of rows, tests and clients that call it by that name, and 0 where none
-does. `--all` prints every call, `--missing` those alone that none calls. Rows are run with growths refused in the gate (`./check "row growths"`), and
-so is the program (`refuse.py --built`).
+`python3 documents/tried.py` prints, as a table, each public call of the libraries that can stop (its answer names `Stop`, `DeclFault` or what
+holds one) with the files of rows, tests and clients that call it by that name, and 0 where none does. `--all` prints every public call,
+`--missing` those alone that none calls. Rows are run with growths refused in the gate (`./check "row growths"`), and so is the program
+(`refuse.py --built`).
 """
 
 import argparse
 import glob
 import os
 import re
+import sys
+
+sys.path.insert(0, os.path.dirname(os.path.abspath(__file__)))
+import calls
 
 ROOT = os.path.dirname(os.path.dirname(os.path.abspath(__file__)))
 LIBRARIES = (
@@ -38,16 +42,9 @@ def rows():
 
 
 def named_calls():
-    """The calls in the first column of the tables, in order: by the last words of their names these, and of which crates they are said to be."""
-    found = {}
-    with open(os.path.join(ROOT, "docs", "CONTRACTS.md")) as file:
-        for line in file:
-            first = line.split("|")[1] if line.startswith("| ") else ""
-            for name, crate in re.findall(r"`([\w:]+)`(?: of `(\w+)`)?", first):
-                last = name.rpartition("::")[2]
-                if re.fullmatch(r"[a-z]\w*", last):
-                    found[last] = name, crate
-    return found
+    """The public calls of the libraries: by their names their paths, and their crates."""
+    every = [it for of in calls.public_items().values() for it in of if it.kind == "fn" and it.crate in LIBRARIES]
+    return {it.name.rpartition("::")[2]: (it.place(), it.crate) for it in every}
 
 
 def signatures():
