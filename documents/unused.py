@@ -4,8 +4,9 @@
     unused.py           prints each declaration of specs/ and proofs/ that nothing reaches, by file, and the files in which nothing is reached
     unused.py --check   prints how many there are; status 1 where there is one
 
-Reached is what a source names, an answer to a goal of a function, or a document, and what a declaration that is reached names. A name counts
-wherever it stands as a word, whatever file it is of, so that what is printed here is used by nothing at all.
+Reached is what a source names, an answer to a goal of a function, a ruleset, or a document, and what a declaration that is reached names. Worked
+cases and laws (files in a folder `Cases` or `Laws`, or whose names end so) are tests of definitions, and count as reached. A name counts wherever it
+stands as a word, whatever file it is of, so that what is printed here is used by nothing at all.
 """
 
 import argparse
@@ -20,6 +21,7 @@ import definitions
 
 ROOT = definitions.ROOT
 ANSWERS = ("Answers", "Invariants", "Proof")
+CASES = re.compile(r"/(?:Cases|Laws)/|(?:Cases|Laws)\.antt$")
 WORD = re.compile(r"[^\s(){}\[\];,.\"`]+")
 
 
@@ -37,8 +39,8 @@ def declared(path):
     """What a file declares: each name with all its texts and those of its constructors and fields; and what else the file says."""
     found, made, rest, last = collections.defaultdict(str), {}, "", None
     for text, around in definitions.declarations(path):
-        if re.match(r"(pub )?(use|mod) ", text):
-            rest += text + "\n" if text.startswith("pub use") else ""
+        if re.match(r"(pub )?(use|mod|ruleset) ", text):
+            rest += "" if text.startswith("use") else text + "\n"
             continue
         head = definitions.HEAD.match(text)
         is_new = head and (head[1] or re.match(rf"{definitions.WORD} :\s", text))
@@ -76,7 +78,7 @@ def unused():
             continue
         found, made, rest = declared(path)
         counts[path] = len(found)
-        queue.append(words(rest))
+        queue.append(words(rest) | (found.keys() if CASES.search(path) else set()))
         for name, text in found.items():
             uses[path, name] = words(text)
             named[name].add((path, name))
