@@ -549,6 +549,24 @@ class Texts(unittest.TestCase):
         self.assertIn(("impl_user_7", "impl_user_8"), pairs)
 
 
+class TestFiles(unittest.TestCase):
+    """The program `rilgomut` over several files."""
+
+    @unittest.skipUnless(PROGRAM, "RILGOMUT_PROGRAM names no program")
+    def test_lines_of_files(self):
+        with tempfile.TemporaryDirectory() as folder:
+            texts = {"traits": "trait 0 Show 0\ntrait 0 Print 0", "none": "", "impls": "impl 0 a 0 + Show u8\nimpl 0 b 0 + Shw u8\n"}
+            names = [os.path.join(folder, name) for name in texts]
+            for name, text in zip(names, texts.values()):
+                with open(name, "w", encoding="utf-8") as target:
+                    target.write(text)
+            ran = subprocess.run([PROGRAM, *names], stdout=subprocess.PIPE, stderr=subprocess.PIPE, text=True, check=False)
+        self.assertEqual((ran.returncode, ran.stdout), (2, "line 4: unknown name Shw\n"))
+        said = ran.stderr.splitlines()
+        self.assertEqual(said[1:], ["%s has lines 1 to 2" % names[0], "%s has lines 3 to 4" % names[2]])
+        self.assertTrue(said[0].startswith("line 4, column 14: expected the name of a trait"), said[0])
+
+
 def over(region):
     """The trait `Over` with a region."""
     return path(1, [{"lifetime": region}], "Over")
