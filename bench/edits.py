@@ -5,8 +5,7 @@
     edits.py --gate [CRATE ..]         tries `crates/CRATE/wrong/*.edit`, which stand in the gate
     edits.py --untried [CRATE ..]      tries those that `--left` names
     edits.py --left                    names those outside the gate that were never tried, or not since they were changed
-    edits.py --unfit                   names those whose words don't stand in the sources as they are, and those of definitions and lemmas
-                                       that no document names
+    edits.py --unfit                   names those whose words don't stand in the sources as they are
 
     --lanes N          how many checks run at a time; each takes 5 GB at most (1)
     --built FOLDER     the checkout in which `rt ci` built the libraries below the crates (this one)
@@ -80,21 +79,6 @@ def is_left(edit, said):
 def is_unfit(edit):
     """Whether the texts that it replaces don't each stand once in their file."""
     return edit.applied(Crate(edit.crate, ROOT).text_of) is None
-
-
-def unnamed():
-    """The files of definitions and lemmas that no document names."""
-    documents = ""
-    for name in glob.glob(os.path.join(ROOT, "docs", "*.md")):
-        with open(name) as file:
-            documents += file.read()
-    named = set(re.findall(r"[\w-]+", documents))
-    paths = glob.glob(os.path.join(ROOT, "crates", "*", "specs", "**", "[A-Z]*.antt"), recursive=True)
-    paths += glob.glob(os.path.join(ROOT, "crates", "*", "proofs", "[A-Z]*.antt"))
-    paths += glob.glob(os.path.join(ROOT, "crates", "*", "proofs", "[A-Z]*", "[A-Z]*.antt"))
-    left_out = {"Lib", "Answers", "Invariants"}
-    kept = [path for path in sorted(paths) if not {os.path.basename(path)[:-5]} & (left_out | named)]
-    return [os.path.relpath(path, os.path.join(ROOT, "crates")) for path in kept]
 
 
 class Trial:
@@ -174,14 +158,11 @@ def lacking(asked, built):
 
 
 def show(given, asked):
-    """Prints the edits that were left out, or don't fit; 1 where some don't, or a file stands in no document, and else 0."""
+    """Prints the edits that were left out, or don't fit; 1 where some don't, and else 0."""
     said, edits = said_before(), [it for found in asked.values() for it in found]
     found = [it.label for it in edits if (is_unfit(it) if given.unfit else is_left(it, said))]
     print("\n".join([*found, f"{len(found)} of {len(edits)}"]))
-    alone = unnamed() if given.unfit and not given.names else []
-    if given.unfit and not given.names:
-        print("\n".join(["named by no document:", *alone]))
-    return 1 if given.unfit and (found or alone) else 0
+    return 1 if given.unfit and found else 0
 
 
 def main():

@@ -3,7 +3,8 @@
 
     definitions.py             says of each file of specs how much of it is to be believed, and names what isn't
     definitions.py --files     lists the files to be believed: those of which a definition is reached
-    definitions.py --check     prints the citations of the documents that are wrong: where, what and in which file, and where that stands
+    definitions.py --check     prints the citations of the documents that are wrong: where, what and in which file, and where that stands; and the
+                               figures of the README that are
     definitions.py --why NAME  prints a shortest path from a public contract to each definition of that name
     definitions.py --of CALL   counts the definitions that the clauses of a public call reach, their lines and files; with --files, names these
 
@@ -401,6 +402,23 @@ def count(specs, contracts, call, names_files):
     return 0 if clauses else f"no public call is named {call}"
 
 
+# The calls, and the clauses of theirs, whose definitions and lines the README counts.
+COUNTED = (("compute_trait_goal", "proved"), ("recall_derived", ""), ("compute_trait_goal", "refused"))
+
+
+def figures(specs, contracts):
+    """Prints the figures of the README that are wrong."""
+    text, is_right = " ".join(read(DOCUMENTS[0]).split()), True
+    for call, clause in COUNTED:
+        some = [it for it in contracts if f"::{call}, " in it[0] and it[0].endswith(clause)]
+        found = [it for it in specs.reached(some) if not isinstance(it, str)]
+        lines = sum(bool(line.strip()) for at, name in found for one in specs.files[at].texts[name] for line in one.splitlines())
+        if not re.search(rf"\b{len(found)}(?: definitions)? in {lines:,} lines", text):
+            is_right = False
+            print(f"README.md: {call} {clause} is {len(found)} definitions in {lines:,} lines")
+    return 0 if is_right else 1
+
+
 def main():
     parser = argparse.ArgumentParser(description=__doc__, formatter_class=argparse.RawDescriptionHelpFormatter)
     parser.add_argument("--files", action="store_true", help="list the files to be believed")
@@ -408,9 +426,9 @@ def main():
     parser.add_argument("--why", metavar="NAME", help="print a path to a definition")
     parser.add_argument("--of", metavar="CALL", help="count what the clauses of a public call reach")
     given = parser.parse_args()
-    if given.check:
-        return citations()
     specs, contracts = Specs(), list(Code().contracts())
+    if given.check:
+        return max(citations(), figures(specs, [it for is_public, *it in contracts if is_public]))
     believed = specs.reached([it for is_public, *it in contracts if is_public])
     private = specs.reached([it for is_public, *it in contracts if not is_public])
     files = [at for at in specs.files if any((at, name) in believed for name in specs.files[at].texts)]

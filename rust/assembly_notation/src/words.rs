@@ -16,22 +16,23 @@ pub struct Words<'a> {
 impl<'a> Words<'a> {
     /// The words of a line, or none where the line is passed over: it has no word before its comment, or its first word begins with `#`.
     ///
-    /// A byte other than a blank and the visible ASCII characters is `Fault::BadByte`, but in a line that begins with `//`.
+    /// A byte of its words other than a blank and the visible ASCII characters is `Fault::BadByte`. Any byte may stand in a comment, and in a line that
+    /// is passed over.
     pub fn of_line(line: &'a [u8]) -> Result<Option<(&'a str, Words<'a>)>, Fault<'a>> {
-        if line.starts_with(b"//") {
+        if begins_with_hash(line) {
             return Ok(None);
         }
         let mut words = Words::of_part(line)?;
         match words.next_word() {
-            Some(first) if first.starts_with("#") => Ok(None),
             Some(first) => Ok(Some((first, words))),
             None => Ok(None),
         }
     }
 
-    /// The words of a part of a line. The error is the same.
+    /// The words of a part of a line, before its comment. The error is the same.
     pub fn of_part(part: &'a [u8]) -> Result<Words<'a>, Fault<'a>> {
         let part = without_return(part);
+        let (part, _) = part.split_at(end_of_words(part));
         if !is_readable(part) {
             return Err(Fault::BadByte);
         }
@@ -41,7 +42,7 @@ impl<'a> Words<'a> {
         }
     }
 
-    /// How many bytes of the line are left.
+    /// How many bytes of the line are left before its comment.
     pub fn left(&self) -> usize {
         self.rest.len()
     }
@@ -130,6 +131,14 @@ fn blanks(bytes: &[u8]) -> usize
         }
     }
     bytes.len()
+}
+
+/// Whether `#` is the first byte that is no blank.
+fn begins_with_hash(line: &[u8]) -> bool {
+    match line.get(blanks(line)) {
+        Some(first) => *first == b'#',
+        None => false,
+    }
 }
 
 /// How many bytes stand before the first blank.

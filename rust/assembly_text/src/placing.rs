@@ -114,14 +114,14 @@ pub fn bytes_before(fault: Fault<'_>, line: &[u8]) -> Option<usize> {
             line.iter().position(|byte| !is_blank(*byte))
         }
         Fault::ShortLine => Some(end_of_words(line)),
-        Fault::LongLine(rest) => { Some(line.len().saturating_sub(rest.trim_start().len())) }
+        Fault::LongLine(rest) => Some(end_of_words(line).saturating_sub(rest.trim_start().len())),
         _ => None,
     }
 }
 
 /// How many bytes of the line stand before the word that was read last, where these words are left of it.
 pub fn bytes_before_last(line: &[u8], words: Words<'_>) -> Option<usize> {
-    let (read, _) = line.split_at_checked(line.len().checked_sub(words.left())?)?;
+    let (read, _) = line.split_at_checked(end_of_words(line).checked_sub(words.left())?)?;
     let mut start: usize = 0;
     for place in 0..read.len() {
         if is_blank(read[place]) {

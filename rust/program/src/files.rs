@@ -9,6 +9,9 @@ use kit::fs::{File, Files};
 use kit::io;
 use kit::io::Read;
 
+/// How many bytes of a file are read at once, at most, where its lines are counted.
+const CHUNK_LENGTH: usize = 4096;
+
 /// What is read of several files, one after the other. Where one ends, its last line does.
 #[derive(Debug)]
 pub struct FilesInOrder<F: Read + Drop> {
@@ -78,6 +81,37 @@ pub fn open_all<R: Files>(
         }
     }
     Ok(FilesInOrder::new(files))
+}
+
+/// How many lines the file of that name has, of which the last one needn't end. `None` comes where it is no ordinary file, or can't be read.
+pub fn count_lines<R: Files>(system: &R, name: &str) -> Option<u64> {
+    if !system.metadata(name).ok()?.is_file() {
+        return None;
+    }
+    let mut file = File::open(system, name).ok()?;
+    let mut chunk = [0u8; CHUNK_LENGTH];
+    let mut count: u64 = 0;
+    let mut is_in_line = false;
+    for _ in 0..u64::MAX {
+        let read = file.read(&mut chunk).ok()?;
+        let Some(last) = chunk[..read].last() else {
+            break;
+        };
+        is_in_line = *last != b'\n';
+        count = count.saturating_add(count_ends(&chunk[..read]));
+    }
+    Some(count.saturating_add(is_in_line as u64))
+}
+
+/// How many lines end in the bytes.
+fn count_ends(bytes: &[u8]) -> u64 {
+    let mut count: u64 = 0;
+    for byte in bytes {
+        if *byte == b'\n' {
+            count = count.saturating_add(1);
+        }
+    }
+    count
 }
 
 /// Whether the name is known to be that of a directory.

@@ -9,7 +9,8 @@ mod files;
 
 use arguments::{Asked, parse, words_of};
 use assembly_text::run::{Status, random_seed, run_with};
-use files::open_all;
+use files::{count_lines, open_all};
+use kit::fs::Files;
 use kit::process::ExitCode;
 
 /// Ends the process so. Where a device failed, the standard error says so.
@@ -35,6 +36,21 @@ fn shown(rt: &(impl Print + Eprint), text: &str) -> ExitCode {
     }
 }
 
+/// Says on the standard error which lines of the text are those of each file, up to one that can't be read once more.
+fn tell_files(rt: &(impl Eprint + Files), names: &[String]) {
+    let mut last: u64 = 0;
+    for name in names {
+        let Some(count) = count_lines(rt, name.as_str()) else {
+            return;
+        };
+        let first = last.saturating_add(1);
+        last = last.saturating_add(count);
+        if count > 0 {
+            let _ = eprintln!(rt; "{name} has lines {first} to {last}");
+        }
+    }
+}
+
 fn main() -> ExitCode {
     let rt = HostRuntime;
     let alloc = rt.alloc();
@@ -53,5 +69,8 @@ fn main() -> ExitCode {
         Ok(files) => run_with(alloc, seed, options, files, output, errors),
         Err(reason) => return refused(&rt, reason.as_str()),
     };
+    if status == Status::BadLine && names.len() > 1 {
+        tell_files(&rt, names.as_slice());
+    }
     ended(&rt, status)
 }

@@ -61,8 +61,10 @@ const TEXTS: &[(&[u8], Status, &str)] = &[
         Status::BadLine,
         "line 2: bad flag #\n",
     ),
-    (b"local 1 // \xff\n", Status::BadLine, "line 1: bad byte\n"),
-    (b"# \xff\n", Status::BadLine, "line 1: bad byte\n"),
+    (b"local 1 // \xff\n \t//\xe2\x82\xac", Status::Done, ""),
+    (b"# \xff\n\t#\xff\n", Status::Done, ""),
+    (b"local \xff // #\n", Status::BadLine, "line 1: bad byte\n"),
+    (b"local 1# \xff\n", Status::BadLine, "line 1: bad byte\n"),
     (
         b"trait 1 T 0//\norphan local T u8 // asks\n",
         Status::BadLine,
